@@ -1,0 +1,240 @@
+-- Paths to leaves, and the values at the end of a query's path.
+use Rattle.std.specs.Prelude.{ℕ, zero, suc, ◌+◌, Bool, true, false, not, ◌&&◌, ◌==◌, nat_lt, if◌then◌else◌, List, [], ◌∷◌, length, take, drop, map, get_or, Option, Some, None, Result, Ok, Err, unwrap_or, flat_map}
+use Rattle.std.specs.List.{find, prefix_len, slice_split}
+use Rattle.std.specs.Str.{bytes_eq}
+use Rattle.bl_num.specs.declared.number.Width.{Width}
+use Rattle.bl_format.specs.declared.catalogue.Catalogue.{Catalogue}
+use Rattle.bl_format.specs.declared.layout.Kind.{Kind}
+use Rattle.bl_format.specs.declared.layout.Kind.TheVariants as kinds
+use Rattle.bl_commands.specs.declared.path.Part.{Part}
+use Rattle.bl_commands.specs.declared.path.Place.{Place}
+use Rattle.bl_commands.specs.declared.path.PathFault.{PathFault}
+use Rattle.bl_commands.specs.declared.path.PathFault.TheVariants.{Malformed, NoMember, NotArray, OutOfRange, NotLeaf}
+use Rattle.bl_commands.specs.declared.path.PathFault.TheVariants as faults
+use Rattle.bl_commands.specs.declared.path.QueryFault.TheVariants as query_faults
+use Rattle.bl_commands.specs.declared.path.QueryFault.{QueryFault}
+use Rattle.bl_commands.specs.declared.path.QueryFault.TheVariants.{NoDatablock, Path as BadPath, NotPointer, NullPointer, NotStruct}
+use Rattle.bl_commands.specs.declared.report.Value.{Value as Shown}
+use Rattle.bl_commands.specs.declared.report.Value.TheVariants.{Chars}
+use Rattle.bl_format.specs.Words.{first_place, numbers_below}
+use Rattle.bl_format.specs.Members.{is_word_byte, extents}
+use Rattle.bl_format.specs.Layout.{NamedLeaf, named_leaves, struct_named, member_numbers, member_size, name_of, inner_struct}
+use Rattle.bl_format.specs.Graph.{Target, Value, Points, Opaque, Fields, Node, Struct, Path, path_of}
+use Rattle.bl_selection.specs.Fate.{is_char}
+use Rattle.bl_linking.specs.References.{Graph, node_in, node_is_id, nodes_where, full_name, path_eq, field, text_from}
+use Rattle.bl_commands.specs.Commands.{is_step}
+use Rattle.bl_commands.specs.declared.ending.Ending.{Ending}
+use Rattle.bl_commands.specs.declared.ending.Ending.TheVariants.{NoCommand, Absent, Device, Missing}
+use Rattle.bl_commands.specs.declared.ending.Ending.TheVariants as endings
+use Rattle.bl_commands.specs.declared.ending.Lack.TheVariants as lacks
+use Rattle.bl_commands.specs.Texts.{Text, line, value_text}
+use Rattle.bl_answers.specs.Printed.{shown_value}
+
+-- ---- texts as paths
+
+-- pieces of a text with their places, where so many bytes stand between each two
+abbrev pub pieces_with_places : ℕ → ℕ → List (List ℕ) → List (ℕ × List ℕ)
+pieces_with_places gap at [] = []
+pieces_with_places gap at (x ∷ xs) = (at, x) ∷ pieces_with_places gap (at + length x + gap) xs
+
+abbrev pub first_number : Option (List ℕ) → Option ℕ
+first_number (Some (n ∷ ns)) = Some n
+first_number _ = None
+
+-- a step with its form: an identifier, and the number of a bracket if there is one
+abbrev pub part_of : ℕ × List ℕ → Part
+part_of (at, step) =
+    let n = prefix_len is_word_byte step in
+    let rest = drop n step in
+    record { identifier = take n step; index = first_number (extents (length rest) rest); at = at }
+
+-- a path that begins at a place of a text: its parts, or the first step that has no form
+unfoldable pub parts_of : ℕ → List ℕ → Result (List Part) PathFault
+parts_of at text = by_fault (find (λ (p : ℕ × List ℕ). not (is_step p.1)) steps)
+  where
+    steps : List (ℕ × List ℕ)
+    steps = pieces_with_places 1 at (slice_split (λ b. b == 46) text)
+
+    by_fault : Option (ℕ × List ℕ) → Result (List Part) PathFault
+    by_fault None = Ok (map part_of steps)
+    by_fault (Some p) = Err (Malformed p.0)
+
+-- ---- the leaf that a path names
+
+-- the member of an identifier, with a size above 0
+abbrev pub member_at_path : Catalogue → Width → ℕ → List ℕ → Option ℕ
+member_at_path c w s identifier =
+    find (λ k. bytes_eq (name_of c s k).identifier identifier && not (member_size c w s k == 0)) (member_numbers c s)
+
+-- the fault of a step to member k, by its index
+abbrev pub index_fault : Catalogue → ℕ → ℕ → Part → Option PathFault
+index_fault c s k p = by_index p.index
+  where
+    by_index : Option ℕ → Option PathFault
+    by_index None = None
+    by_index (Some i) =
+        if not (name_of c s k).brackets then Some (NotArray p.at) else
+        if nat_lt i (name_of c s k).count then None else
+        Some (OutOfRange p.at)
+
+-- a step before a way
+abbrev pub before_way : List ℕ × ℕ → Result Path PathFault → Result Path PathFault
+before_way h (Ok way) = Ok (h ∷ way)
+before_way h (Err fault) = Err fault
+
+-- the way of a path in struct s; a struct array without an index means element 0
+unfoldable pub way_in : Catalogue → Width → ℕ → List Part → Result Path PathFault
+way_in c w s [] = Ok []
+way_in c w s (p ∷ ps) = at_member (member_at_path c w s p.identifier) (λ t. way_in c w t ps)
+  where
+    last : List Part → Bool
+    last [] = true
+    last (q ∷ qs) = false
+
+    next_at : List Part → ℕ
+    next_at [] = 0
+    next_at (q ∷ qs) = q.at
+
+    step : List ℕ × ℕ
+    step = (p.identifier, unwrap_or p.index 0)
+
+    by_kind : Option ℕ → (ℕ → Result Path PathFault) → Result Path PathFault
+    by_kind None go = if last ps then Ok (step ∷ []) else Err (NoMember (next_at ps))
+    by_kind (Some t) go = if last ps then Err (NotLeaf p.at) else before_way step (go t)
+
+    by_index : Option PathFault → ℕ → (ℕ → Result Path PathFault) → Result Path PathFault
+    by_index (Some fault) k go = Err fault
+    by_index None k go = by_kind (inner_struct c s k) go
+
+    at_member : Option ℕ → (ℕ → Result Path PathFault) → Result Path PathFault
+    at_member None go = Err (NoMember p.at)
+    at_member (Some k) go = by_index (index_fault c s k p) k go
+
+abbrev pub last_index : List Part → Option ℕ
+last_index [] = None
+last_index (p ∷ []) = p.index
+last_index (p ∷ q ∷ ps) = last_index (q ∷ ps)
+
+-- a way to element 0 of its last member
+abbrev pub to_first : Path → Path
+to_first [] = []
+to_first (h ∷ []) = (h.0, 0) ∷ []
+to_first (h ∷ g ∷ hs) = h ∷ to_first (g ∷ hs)
+
+-- the leaf, and the element that the last step gives
+unfoldable pub place_in : Catalogue → Width → ℕ → List Part → Result Place PathFault
+place_in c w s ps = by_way (way_in c w s ps)
+  where
+    by_way : Result Path PathFault → Result Place PathFault
+    by_way (Err fault) = Err fault
+    by_way (Ok way) = Ok (record {
+      leaf = unwrap_or (first_place (λ (x : NamedLeaf). path_eq (path_of x.way 0) (to_first way)) (named_leaves c w s)) 0;
+      element = last_index ps;
+    })
+
+-- ---- queries
+
+-- the struct's number and the fields of element 0 of a node, unless it is raw or has no elements
+abbrev pub subject : Catalogue → Node → Option (ℕ × Fields)
+subject c (Struct code name group (fs ∷ es)) = Some (unwrap_or (struct_named c name) 0, fs)
+subject c x = None
+
+abbrev pub no_leaf : NamedLeaf
+no_leaf = record { way = []; type_name = []; kind = kinds.Opaque; offset = 0; size = 0; count = 0 }
+
+abbrev pub value_at : Fields → NamedLeaf → ℕ → Value Target
+value_at fs x k = unwrap_or (field fs (path_of x.way k)) (Opaque [])
+
+-- the values at a place: of one element, of all, or the text of a `char` array
+abbrev pub answer_at : Fields → NamedLeaf → Option ℕ → List Shown
+answer_at fs x (Some k) = shown_value x.kind (value_at fs x k) ∷ []
+answer_at fs x None =
+    let values = map (value_at fs x) (numbers_below x.count) in
+    if is_char x && nat_lt 1 x.count then Chars (text_from values) ∷ [] else map (shown_value x.kind) values
+
+-- what a pointer names, or the fault of following it from a place
+abbrev pub pointer_followed : ℕ → Kind → Value Target → Result ℕ QueryFault
+pointer_followed arrow (kinds.Pointer depth t) (Points (Some m)) = Ok m
+pointer_followed arrow (kinds.Pointer depth t) v = Err (NullPointer arrow)
+pointer_followed arrow kind v = Err (NotPointer arrow)
+
+-- the answer to the rest of a query, from the fields of an element of struct s
+unfoldable pub answer_from : Catalogue → Width → Graph → ℕ → Fields → List (ℕ × List ℕ) → Result (List Shown) QueryFault
+answer_from c w g s fs [] = Ok []
+answer_from c w g s fs ((at, text) ∷ rest) = by_parts (parts_of at text) (λ t gs. answer_from c w g t gs rest)
+  where
+    Rest : Type 0
+    Rest = ℕ → Fields → Result (List Shown) QueryFault
+
+    is_last : List (ℕ × List ℕ) → Bool
+    is_last [] = true
+    is_last (p ∷ ps) = false
+
+    arrow : ℕ
+    arrow = at + length text
+
+    at_subject : Option (ℕ × Fields) → Rest → Result (List Shown) QueryFault
+    at_subject None go = Err (NotStruct arrow)
+    at_subject (Some (t, gs)) go = go t gs
+
+    by_target : Result ℕ QueryFault → Rest → Result (List Shown) QueryFault
+    by_target (Err fault) go = Err fault
+    by_target (Ok m) go = at_subject (subject c (node_in g m)) go
+
+    at_leaf : NamedLeaf → Option ℕ → Rest → Result (List Shown) QueryFault
+    at_leaf x element go =
+        if is_last rest then Ok (answer_at fs x element) else
+        by_target (pointer_followed arrow x.kind (value_at fs x (unwrap_or element 0))) go
+
+    by_place : Result Place PathFault → Rest → Result (List Shown) QueryFault
+    by_place (Err fault) go = Err (BadPath fault)
+    by_place (Ok place) go = at_leaf (get_or (named_leaves c w s) place.leaf no_leaf) place.element go
+
+    by_parts : Result (List Part) PathFault → Rest → Result (List Shown) QueryFault
+    by_parts (Err fault) go = Err (BadPath fault)
+    by_parts (Ok parts) go = by_place (place_in c w s parts) go
+
+-- the paths of a query with their places; before each but the first stands `->`
+abbrev pub query_steps : List ℕ → List (ℕ × List ℕ)
+query_steps text = map without_arrow (pieces_with_places 1 0 (slice_split (λ b. b == 45) text))
+  where
+    without_arrow : ℕ × List ℕ → ℕ × List ℕ
+    without_arrow (zero, piece) = (0, piece)
+    without_arrow (suc at, piece) = (suc at + 1, drop 1 piece)
+
+-- the answer to a query on the first ID of a full name
+unfoldable pub query_answer : Catalogue → Width → Graph → List ℕ → List ℕ → Result (List Shown) QueryFault
+query_answer c w g name text = by_node (find (λ n. bytes_eq (full_name (node_in g n)) name) (nodes_where g (node_is_id c)))
+  where
+    at_subject : Option (ℕ × Fields) → Result (List Shown) QueryFault
+    at_subject None = Err NoDatablock
+    at_subject (Some (s, fs)) = answer_from c w g s fs (query_steps text)
+
+    by_node : Option ℕ → Result (List Shown) QueryFault
+    by_node None = Err NoDatablock
+    by_node (Some n) = at_subject (subject c (node_in g n))
+
+-- ---- what is printed
+
+-- one line for each value
+abbrev pub answer_lines : List Shown → Text
+answer_lines values = flat_map (λ v. line (value_text v ∷ [])) values
+
+abbrev pub path_ending : PathFault → Ending
+path_ending (Malformed at) = NoCommand
+path_ending (NoMember at) = Missing (lacks.NoMember at)
+path_ending (NotArray at) = Missing (lacks.NotArray at)
+path_ending (OutOfRange at) = Missing (lacks.OutOfRange at)
+path_ending (NotLeaf at) = Missing (lacks.NotLeaf at)
+path_ending faults.NoMemory = endings.NoMemory
+
+-- by the words IN and NAME
+abbrev pub query_ending : List ℕ → List ℕ → QueryFault → Ending
+query_ending file name NoDatablock = Missing (lacks.NoDatablock name)
+query_ending file name (BadPath fault) = path_ending fault
+query_ending file name (NotPointer at) = Missing (lacks.NotPointer at)
+query_ending file name (NullPointer at) = Missing (lacks.NullPointer at)
+query_ending file name (NotStruct at) = Missing (lacks.NotStruct at)
+query_ending file name query_faults.Absent = Absent file
+query_ending file name query_faults.Device = Device
+query_ending file name query_faults.NoMemory = endings.NoMemory

@@ -1,0 +1,12 @@
+//! The words of the commands, and the texts that they print.
+#![tactic(auto)]
+
+mod command;
+mod ending;
+mod path;
+mod report;
+
+pub use command::{Command, ConvertOptions};
+pub use ending::{Ending, FileFault, Lack, Quantity};
+pub use path::{Part, Path, PathFault, Place, QueryFault};
+pub use report::{Row, Value};

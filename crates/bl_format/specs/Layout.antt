@@ -1,0 +1,344 @@
+-- Sizes, offsets and leaves of the structs of a catalogue.
+use Rattle.std.specs.Prelude.{◌≡◌, ℕ, zero, suc, ◌+◌, ◌*◌, max, Bool, true, false, not, ◌&&◌, ◌||◌, ◌==◌, nat_lt, if◌then◌else◌, List, [], ◌∷◌, length, map, flat_map, filter_map, fold, sum, get_or, Option, Some, None, option_map, unwrap_or, is_some, codes}
+use Rattle.std.specs.List.{find}
+use Rattle.std.specs.Option.{option_or}
+use Rattle.std.specs.Str.{bytes_eq}
+use Rattle.bl_num.specs.declared.number.Width.{Width}
+use Rattle.bl_num.specs.Numbers.{pointer_bytes}
+use Rattle.bl_format.specs.declared.catalogue.Catalogue.{Catalogue}
+use Rattle.bl_format.specs.declared.catalogue.TypeEntry.{TypeEntry}
+use Rattle.bl_format.specs.declared.catalogue.StructEntry.{StructEntry}
+use Rattle.bl_format.specs.declared.catalogue.MemberEntry.{MemberEntry}
+use Rattle.bl_format.specs.declared.layout.Kind.{Kind}
+use Rattle.bl_format.specs.declared.layout.Kind.TheVariants as kinds
+use Rattle.bl_format.specs.declared.layout.Leaf.{Leaf}
+use Rattle.bl_format.specs.declared.layout.Shape.{Shape}
+use Rattle.bl_format.specs.declared.layout.LayoutFault.{LayoutFault}
+use Rattle.bl_format.specs.declared.layout.LayoutFault.TheVariants.{BadName, BasicLength, Overrun, Cyclic, DuplicateMember, TooDeep, TooManyLeaves}
+use Rattle.bl_format.specs.Words.{first_place, numbers_below, is_one_of, contains, numbers_reached}
+use Rattle.bl_format.specs.Members.{MemberName, member_name, other_name}
+use Rattle.bl_format.specs.Schema.{CanBeRead}
+
+-- ---- looking things up
+
+-- A number out of range gives something without a name, a length or members: a struct or a member that
+-- isn't there has the first type number and name number that aren't there either.
+
+abbrev pub type_at : Catalogue → ℕ → TypeEntry
+type_at c t = get_or c.types t (record { name = []; length = 0 })
+
+abbrev pub struct_at : Catalogue → ℕ → StructEntry
+struct_at c s = get_or c.structs s (record { type_number = length c.types; members = [] })
+
+abbrev pub member_at : Catalogue → ℕ → ℕ → MemberEntry
+member_at c s k = get_or (struct_at c s).members k (record { type_number = length c.types; name_number = length c.names })
+
+-- how many members a struct has
+abbrev pub member_count : Catalogue → ℕ → ℕ
+member_count c s = length (struct_at c s).members
+
+-- the numbers of all structs, and of a struct's members
+abbrev pub struct_numbers : Catalogue → List ℕ
+struct_numbers c = numbers_below (length c.structs)
+
+abbrev pub member_numbers : Catalogue → ℕ → List ℕ
+member_numbers c s = numbers_below (member_count c s)
+
+abbrev pub name_at : Catalogue → ℕ → List ℕ
+name_at c n = get_or c.names n []
+
+abbrev pub struct_name : Catalogue → ℕ → List ℕ
+struct_name c s = (type_at c (struct_at c s).type_number).name
+
+abbrev pub struct_length : Catalogue → ℕ → ℕ
+struct_length c s = (type_at c (struct_at c s).type_number).length
+
+-- the number of the type of a name
+unfoldable pub type_named : Catalogue → List ℕ → Option ℕ
+type_named c name = first_place (λ t. bytes_eq t.name name) c.types
+
+-- the number of the struct of a type, or of a name
+abbrev pub struct_of_type : Catalogue → ℕ → Option ℕ
+struct_of_type c t = first_place (λ s. s.type_number == t) c.structs
+
+unfoldable pub struct_named : Catalogue → List ℕ → Option ℕ
+struct_named c name = first_place (λ s. bytes_eq (type_at c s.type_number).name name) c.structs
+
+-- the parts of a member's name, of a bad name too
+unfoldable pub name_of : Catalogue → ℕ → ℕ → MemberName
+name_of c s k =
+    let name = name_at c (member_at c s k).name_number in
+    unwrap_or (member_name name) (other_name name)
+
+-- ---- kinds of types
+
+-- a basic type: a whole number with the lengths that it may have, a float, or nothing
+pub data Basic : Type 0 where
+  IsWhole : (signed : Bool) → (lengths : List ℕ) → Basic
+  IsFloat : (bytes : ℕ) → Basic
+  IsVoid : Basic
+
+abbrev pub basics : List (List ℕ × Basic)
+basics =
+    (codes "char", IsWhole true (1 ∷ [])) ∷ (codes "int8_t", IsWhole true (1 ∷ [])) ∷ (codes "uchar", IsWhole false (1 ∷ []))
+    ∷ (codes "short", IsWhole true (2 ∷ [])) ∷ (codes "ushort", IsWhole false (2 ∷ [])) ∷ (codes "int", IsWhole true (4 ∷ []))
+    ∷ (codes "long", IsWhole true (4 ∷ 8 ∷ [])) ∷ (codes "ulong", IsWhole false (4 ∷ 8 ∷ []))
+    ∷ (codes "int64_t", IsWhole true (8 ∷ [])) ∷ (codes "uint64_t", IsWhole false (8 ∷ []))
+    ∷ (codes "float", IsFloat 4) ∷ (codes "double", IsFloat 8) ∷ (codes "void", IsVoid) ∷ []
+
+unfoldable pub basic_named : List ℕ → Option Basic
+basic_named name = option_map (λ e. e.1) (find (λ e. bytes_eq e.0 name) basics)
+
+abbrev pub lengths_of : Basic → List ℕ
+lengths_of (IsWhole signed ls) = ls
+lengths_of (IsFloat n) = n ∷ []
+lengths_of IsVoid = 0 ∷ []
+
+-- what a member by value holds: a basic type, a struct, or opaque bytes
+pub data Content : Type 0 where
+  IsBasic : (basic : Basic) → Content
+  IsStruct : (s : ℕ) → Content
+  IsOpaque : Content
+
+abbrev pub content_else : Option ℕ → Content
+content_else None = IsOpaque
+content_else (Some s) = IsStruct s
+
+abbrev pub content_by : Catalogue → ℕ → Option Basic → Content
+content_by c t (Some b) = IsBasic b
+content_by c t None = content_else (struct_of_type c t)
+
+unfoldable pub content_of : Catalogue → ℕ → Content
+content_of c t = content_by c t (basic_named (type_at c t).name)
+
+-- the struct that a member is, by value
+abbrev pub struct_in : Content → Option ℕ
+struct_in (IsBasic b) = None
+struct_in (IsStruct s) = Some s
+struct_in IsOpaque = None
+
+unfoldable pub inner_struct : Catalogue → ℕ → ℕ → Option ℕ
+inner_struct c s k = if (name_of c s k).pointer then None else struct_in (content_of c (member_at c s k).type_number)
+
+-- ---- sizes and offsets
+
+-- the bytes of one element
+unfoldable pub element_size : Catalogue → Width → ℕ → ℕ → ℕ
+element_size c w s k = if (name_of c s k).pointer then pointer_bytes w else (type_at c (member_at c s k).type_number).length
+
+unfoldable pub member_size : Catalogue → Width → ℕ → ℕ → ℕ
+member_size c w s k = element_size c w s k * (name_of c s k).count
+
+-- the sum of the sizes of the members before
+unfoldable pub member_offset : Catalogue → Width → ℕ → ℕ → ℕ
+member_offset c w s k = sum (map (member_size c w s) (numbers_below k))
+
+-- ---- faults of a layout
+
+-- the structs that stand in a struct by value, with or without elements
+abbrev pub inner_structs : Catalogue → ℕ → List ℕ
+inner_structs c s = filter_map (inner_struct c s) (member_numbers c s)
+
+abbrev pub holds_struct : Catalogue → ℕ → ℕ → Bool
+holds_struct c s t = contains (inner_structs c s) t
+
+-- struct s is reached again, by value, from a struct that stands in it
+abbrev pub leads_back : Catalogue → ℕ → Option ℕ → Bool
+leads_back c s None = false
+leads_back c s (Some t) = contains (numbers_reached (holds_struct c) (length c.structs) (length c.structs) (t ∷ [])) s
+
+-- a member's name has neither form, or too many elements
+abbrev pub has_bad_name : Catalogue → ℕ → ℕ → Bool
+has_bad_name c s k = not (is_some (member_name (name_at c (member_at c s k).name_number)))
+
+-- its identifier stood before in its struct
+abbrev pub is_duplicate : Catalogue → ℕ → ℕ → Bool
+is_duplicate c s k = is_one_of (name_of c s k).identifier (map (λ j. (name_of c s j).identifier) (numbers_below k))
+
+abbrev pub bad_length : Option Basic → ℕ → Bool
+bad_length None n = false
+bad_length (Some b) n = not (contains (lengths_of b) n)
+
+-- it is by value of a basic type of another length than the table's, or its struct has a basic type's name
+abbrev pub has_bad_length : Catalogue → ℕ → ℕ → Bool
+has_bad_length c s k =
+    let t = type_at c (member_at c s k).type_number in
+    is_some (basic_named (struct_name c s)) || (not (name_of c s k).pointer && bad_length (basic_named t.name) t.length)
+
+-- it passes the length of its struct's type
+abbrev pub overruns : Catalogue → Width → ℕ → ℕ → Bool
+overruns c w s k = nat_lt (struct_length c s) (member_offset c w s (suc k))
+
+-- the first check that member k of struct s fails
+unfoldable pub member_fault : Catalogue → Width → ℕ → ℕ → Option LayoutFault
+member_fault c w s k =
+    if has_bad_name c s k then Some (BadName s k) else
+    if is_duplicate c s k then Some (DuplicateMember s k) else
+    if has_bad_length c s k then Some (BasicLength s k) else
+    if leads_back c s (inner_struct c s k) then Some (Cyclic s k) else
+    if overruns c w s k then Some (Overrun s k) else
+    None
+
+-- the first of a list
+abbrev pub first_some : {A X : Type 0} → (A → Option X) → List A → Option X
+first_some f [] = None
+first_some f (x ∷ xs) = option_or (f x) (first_some f xs)
+
+-- struct by struct, and member by member
+unfoldable pub first_fault : Catalogue → Width → Option LayoutFault
+first_fault c w = first_some (λ s. first_some (member_fault c w s) (member_numbers c s)) (struct_numbers c)
+
+-- ---- leaves
+
+-- one member on the way to a leaf: the number and name of the struct in which it stands, the member's
+-- number, key, identifier and name number, and the element
+pub record MemberStep : Type 0 where
+  pub s : ℕ
+  pub member : ℕ
+  pub owner : List ℕ
+  pub key : List ℕ
+  pub identifier : List ℕ
+  pub name_number : ℕ
+  pub element : ℕ
+
+-- a leaf by its way, outer members first, with the name of its type
+pub record NamedLeaf : Type 0 where
+  pub way : List MemberStep
+  pub type_name : List ℕ
+  pub kind : Kind
+  pub offset : ℕ
+  pub size : ℕ
+  pub count : ℕ
+
+abbrev pub member_step : Catalogue → ℕ → ℕ → ℕ → MemberStep
+member_step c s k e =
+    let n = name_of c s k in
+    record {
+      s = s;
+      member = k;
+      owner = struct_name c s;
+      key = n.key;
+      identifier = n.identifier;
+      name_number = (member_at c s k).name_number;
+      element = e;
+    }
+
+abbrev pub kind_of_content : Content → ℕ → Kind
+kind_of_content (IsBasic (IsWhole signed ls)) n = kinds.Whole (record { bytes = n; signed = signed })
+kind_of_content (IsBasic (IsFloat k)) n = kinds.Bits n
+kind_of_content (IsBasic IsVoid) n = kinds.Opaque
+kind_of_content (IsStruct s) n = kinds.Opaque
+kind_of_content IsOpaque n = kinds.Opaque
+
+unfoldable pub kind_of : Catalogue → ℕ → ℕ → Kind
+kind_of c s k =
+    let t = (member_at c s k).type_number in
+    if (name_of c s k).pointer
+    then kinds.Pointer (name_of c s k).depth t
+    else kind_of_content (content_of c t) (type_at c t).length
+
+-- the slot of a struct that stands behind a hop, so many bytes further on
+abbrev pub leaf_behind : MemberStep → ℕ → NamedLeaf → NamedLeaf
+leaf_behind h by x = record x { way = h ∷ x.way; offset = by + x.offset }
+
+-- the one slot of a member that isn't a struct by value
+abbrev pub own_leaf : Catalogue → Width → ℕ → ℕ → NamedLeaf
+own_leaf c w s k = record {
+  way = member_step c s k 0 ∷ [];
+  type_name = (type_at c (member_at c s k).type_number).name;
+  kind = kind_of c s k;
+  offset = member_offset c w s k;
+  size = element_size c w s k;
+  count = (name_of c s k).count;
+}
+
+-- the slots of element e of a member that is a struct by value
+abbrev pub inner_leaves : List NamedLeaf → Catalogue → Width → ℕ → ℕ → ℕ → List NamedLeaf
+inner_leaves inside c w s k e = map (leaf_behind (member_step c s k e) (member_offset c w s k + e * element_size c w s k)) inside
+
+abbrev pub leaves_by : (ℕ → List NamedLeaf) → Catalogue → Width → ℕ → ℕ → Option ℕ → List NamedLeaf
+leaves_by inside c w s k (Some t) = flat_map (inner_leaves (inside t) c w s k) (numbers_below (name_of c s k).count)
+leaves_by inside c w s k None = own_leaf c w s k ∷ []
+
+-- a struct by value gives that struct's slots for each element, any other member one, and one of size 0 none
+unfoldable pub member_leaves : (ℕ → List NamedLeaf) → Catalogue → Width → ℕ → ℕ → List NamedLeaf
+member_leaves inside c w s k =
+    if member_size c w s k == 0 then [] else leaves_by inside c w s k (inner_struct c s k)
+
+-- the slots of a struct whose nesting is at most this
+unfoldable pub leaves_within : ℕ → Catalogue → Width → ℕ → List NamedLeaf
+leaves_within zero c w s = []
+leaves_within (suc n) c w s = flat_map (member_leaves (leaves_within n c w) c w s) (member_numbers c s)
+
+-- no nesting passes 32
+unfoldable pub named_leaves : Catalogue → Width → ℕ → List NamedLeaf
+named_leaves c w s = leaves_within 33 c w s
+
+abbrev pub first_member : List MemberStep → ℕ
+first_member [] = 0
+first_member (h ∷ hs) = h.member
+
+-- the leaf as the code keeps it
+abbrev pub leaf_of : NamedLeaf → Leaf
+leaf_of x = record {
+  member = first_member x.way;
+  steps = map (λ h. record { name_number = h.name_number; element = h.element }) x.way;
+  kind = x.kind;
+  offset = x.offset;
+  size = x.size;
+  count = x.count;
+}
+
+-- the leaves of a struct, in order
+unfoldable pub leaves_of : Catalogue → Width → ℕ → List Leaf
+leaves_of c w s = map leaf_of (named_leaves c w s)
+
+-- what is known of a member by its name and place
+unfoldable pub shape_of : Catalogue → Width → ℕ → ℕ → Shape
+shape_of c w s k =
+    let n = name_of c s k in
+    record {
+      pointer = n.pointer;
+      depth = n.depth;
+      identifier_at = n.identifier_at;
+      identifier_len = length n.identifier;
+      key_len = length n.key;
+      brackets = n.brackets;
+      count = n.count;
+      offset = member_offset c w s k;
+      size = member_size c w s k;
+      inner = inner_struct c s k;
+    }
+
+-- ---- the two limits, and all faults
+
+-- how deep structs stand in one another; one without structs by value has 1
+unfoldable pub nesting_within : ℕ → Catalogue → ℕ → ℕ
+nesting_within zero c s = 0
+nesting_within (suc n) c s = suc (fold max 0 (map (nesting_within n c) (inner_structs c s)))
+
+-- where no struct stands in itself, none is nested deeper than there are structs
+unfoldable pub nesting : Catalogue → ℕ → ℕ
+nesting c s = nesting_within (length c.structs) c s
+
+-- the nesting of the first struct that passes the limit
+unfoldable pub depth_fault : Catalogue → Option LayoutFault
+depth_fault c = first_some (λ s. if nat_lt 32 (nesting c s) then Some (TooDeep (nesting c s)) else None) (struct_numbers c)
+
+-- how many leaves the structs below a number have together
+unfoldable pub leaves_below : Catalogue → Width → ℕ → ℕ
+leaves_below c w s = sum (map (λ t. length (named_leaves c w t)) (numbers_below s))
+
+-- the leaves up to and with the first struct at which they pass the limit
+unfoldable pub leaves_fault : Catalogue → Width → Option LayoutFault
+leaves_fault c w =
+    first_some (λ s. if nat_lt 1048576 (leaves_below c w (suc s)) then Some (TooManyLeaves (leaves_below c w (suc s))) else None) (struct_numbers c)
+
+-- the first fault by name, else the first struct past a limit: first on nesting, then on leaves
+unfoldable pub layout_fault : Catalogue → Width → Option LayoutFault
+layout_fault c w = option_or (first_fault c w) (option_or (depth_fault c) (leaves_fault c w))
+
+-- a catalogue has a layout at a width
+pub record HasLayout (c : Catalogue) (w : Width) : Type 0 where
+  pub can_be_read : CanBeRead c
+  pub no_fault : layout_fault c w ≡ None

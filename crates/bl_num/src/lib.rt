@@ -1,0 +1,8 @@
+//! Numbers as bytes, and texts and lists that contracts see as plain values.
+#![tactic(auto)]
+
+mod items;
+mod number;
+
+pub use items::{Items, Text};
+pub use number::{Form, NoMemory, Order, Whole, Width, read_whole, write_whole};

@@ -1,0 +1,5 @@
+pub mod Fate
+pub mod Selection
+pub mod Written
+pub mod Committed
+pub mod Drafts
