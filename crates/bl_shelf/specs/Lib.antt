@@ -1,0 +1,9 @@
+pub mod Causes
+pub mod Contents
+pub mod Memory
+pub mod MemorySink
+pub mod Meter
+pub mod NamedBytes
+pub mod Steady
+pub mod Told
+pub mod Written

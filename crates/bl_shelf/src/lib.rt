@@ -1,0 +1,17 @@
+//! Where files come from and where lines go: the traits of the outside, shelves and a sink in
+//! memory for tests, the current folder, and standard output.
+#![tactic(auto)]
+
+mod memory;
+mod memory_sink;
+mod meter;
+mod named_bytes;
+mod shelf;
+mod sink;
+mod steady;
+
+pub use memory::MemoryShelf;
+pub use memory_sink::MemorySink;
+pub use shelf::{Shelf, ShelfFault};
+pub use sink::{Sink, SinkFault};
+pub use steady::SteadyShelf;

@@ -1,0 +1,31 @@
+// Files in memory, the newest first.
+ghost use Rattle.std.specs.Prelude.{◌≡◌, ◌+◌, ◌≤◌, length, take, drop, option_copied};
+ghost use Rattle.std.specs.FinMap.{get};
+ghost use Rattle.bl_shelf.specs.NamedBytes.{held_in};
+
+#[derive(Drop)]
+pub(crate) struct NamedBytes {
+    pub name: Vec<u8>,
+    pub bytes: Vec<u8>,
+}
+
+// The bytes of the first file of this name.
+pub(crate) fn bytes_in<'a>(files: &'a [NamedBytes], name: &[u8]) -> Option<&'a [u8]>
+    ensures { option_copied result ≡ get (held_in files.now) name.now }
+{
+    for file in files {
+        if name == file.name.as_slice() {
+            return Some(file.bytes.as_slice());
+        }
+    }
+    None
+}
+
+// Fills with the bytes from a place on.
+pub(crate) fn copy_part(bytes: &[u8], at: u64, dst: &mut [u8])
+    requires { at + length dst.old ≤ length bytes.now }
+    ensures { dst.new ≡ take (length dst.old) (drop at bytes.now) }
+{
+    let rest = &bytes[at as usize..];
+    dst.copy_from_slice(&rest[..dst.len()]);
+}
