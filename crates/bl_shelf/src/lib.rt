@@ -2,16 +2,20 @@
 //! memory for tests, the current folder, and standard output.
 #![tactic(auto)]
 
+mod folder;
 mod memory;
 mod memory_sink;
 mod meter;
 mod named_bytes;
 mod shelf;
 mod sink;
+mod standard_output;
 mod steady;
 
+pub use folder::FolderShelf;
 pub use memory::MemoryShelf;
 pub use memory_sink::MemorySink;
 pub use shelf::{Shelf, ShelfFault};
 pub use sink::{Sink, SinkFault};
+pub use standard_output::StdoutSink;
 pub use steady::SteadyShelf;
