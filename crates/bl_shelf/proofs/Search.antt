@@ -1,5 +1,5 @@
 -- The search for a name goes file by file.
-use Rattle.std.proofs.Common.{◌≡◌, length, ℕ, ◌+◌, ◌<◌, List, map, drop, get_or, cond, eqb, refl, sym, ap, ◌∙◌, add-one, arith, Some, drop-cons}
+use Rattle.std.proofs.Common.{◌≡◌, length, ℕ, ◌+◌, ◌<◌, List, map, drop, get_or, cond, eqb, refl, add-one, Some, drop-cons}
 use Rattle.std.specs.Ordering.{nat_cmp}
 use Rattle.std.specs.Cmp.Lexicographic.{slice_cmp, pointwise, texts_ties}
 use Rattle.std.specs.FinMap.{find}

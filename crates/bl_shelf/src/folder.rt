@@ -243,3 +243,38 @@ impl<R: Files + Drop> Shelf for FolderShelf<R> {
         }
     }
 }
+
+#[cfg(test)]
+mod tests {
+    use super::*;
+
+    #[test]
+    fn keeps_files_in_the_folder(rt: HostRuntime) {
+        let name = "kept_by_folder_shelf";
+        let mut shelf = FolderShelf::new(rt.alloc(), rt);
+        assert_eq!(rt; shelf.size(name), Err(ShelfFault::Absent));
+
+        assert_eq!(rt; shelf.stage(name, 6), Ok(()));
+        assert_eq!(rt; shelf.push(b"abcd"), Ok(()));
+        assert_eq!(rt; shelf.push(b"ef"), Ok(()));
+        assert_eq!(rt; shelf.size(name), Err(ShelfFault::Absent));
+        assert_eq!(rt; shelf.commit(), Ok(()));
+
+        let mut part = [0u8; 3];
+        assert_eq!(rt; shelf.size(name), Ok(6));
+        assert_eq!(rt; shelf.read_at(name, 2, &mut part), Ok(()));
+        assert_eq!(rt; &part, b"cde");
+        assert_eq!(rt; shelf.read_at(name, 4, &mut part), Err(ShelfFault::Failed));
+        assert_eq!(rt; shelf.size("."), Err(ShelfFault::Failed));
+
+        assert_eq!(rt; shelf.stage(name, 1), Ok(()));
+        assert_eq!(rt; shelf.push(b"x"), Ok(()));
+        shelf.abandon();
+        assert_eq!(rt;
+            shelf.size("kept_by_folder_shelf.bl-part"),
+            Err(ShelfFault::Absent)
+        );
+        assert_eq!(rt; shelf.size(name), Ok(6));
+        assert!(rt; fs::remove_file(&rt, name).is_ok());
+    }
+}

@@ -193,3 +193,42 @@ impl Shelf for MemoryShelf {
         self.shelf.abandon();
     }
 }
+
+#[cfg(test)]
+mod tests {
+    use super::*;
+    use crate::{MemorySink, Sink, SinkFault};
+
+    #[test]
+    fn fails_where_it_is_told(rt: HostRuntime) -> Result<(), NoMemory> {
+        let fails = vec![in rt.alloc(); 2u64, 7]?;
+        let mut shelf = MemoryShelf::new(rt.alloc(), fails, true);
+        shelf.hold("a", b"abcdef")?;
+        let mut part = [0u8; 2];
+        assert_eq!(rt; shelf.size("a"), Ok(6));
+        assert_eq!(rt; shelf.read_at("a", 3, &mut part), Ok(()));
+        assert_eq!(rt; &part, b"de");
+        assert_eq!(rt; shelf.size("a"), Err(ShelfFault::Failed));
+        assert_eq!(rt; shelf.size("b"), Err(ShelfFault::Absent));
+
+        assert_eq!(rt; shelf.stage("b", 2), Ok(()));
+        assert_eq!(rt; shelf.push(b"xy"), Ok(()));
+        shelf.hold("c", b"z")?;
+        assert_eq!(rt; shelf.commit(), Ok(()));
+        assert!(rt; shelf.bytes_of("b") == Some(b"xy".as_slice()));
+        assert!(rt; shelf.bytes_of("c") == Some(b"z".as_slice()));
+        assert_eq!(rt; shelf.stage("d", 0), Err(ShelfFault::Failed));
+        Ok(())
+    }
+
+    #[test]
+    fn puts_where_it_is_told(rt: HostRuntime) -> Result<(), NoMemory> {
+        let fails = vec![in rt.alloc(); 1u64]?;
+        let mut sink = MemorySink::new(rt.alloc(), fails);
+        assert_eq!(rt; sink.put(b"ab"), Ok(()));
+        assert_eq!(rt; sink.put(b"cd"), Err(SinkFault::Failed));
+        assert_eq!(rt; sink.put(b"ef"), Ok(()));
+        assert_eq!(rt; sink.bytes(), b"abef".as_slice());
+        Ok(())
+    }
+}

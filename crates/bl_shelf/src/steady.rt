@@ -179,3 +179,28 @@ impl Shelf for SteadyShelf {
         self.staged = None;
     }
 }
+
+#[cfg(test)]
+mod tests {
+    use super::*;
+
+    #[test]
+    fn keeps_files(rt: HostRuntime) -> Result<(), NoMemory> {
+        let mut shelf = SteadyShelf::new(rt.alloc());
+        shelf.hold("a", b"ab")?;
+        let mut part = [0u8; 1];
+        assert_eq!(rt; shelf.size("a"), Ok(2));
+        assert_eq!(rt; shelf.read_at("a", 1, &mut part), Ok(()));
+        assert_eq!(rt; &part, b"b");
+        assert_eq!(rt; shelf.stage("a", 1), Ok(()));
+        assert_eq!(rt; shelf.push(b"x"), Ok(()));
+        shelf.abandon();
+        assert!(rt; shelf.bytes_of("a") == Some(b"ab".as_slice()));
+        assert_eq!(rt; shelf.stage("a", 1), Ok(()));
+        assert_eq!(rt; shelf.push(b"y"), Ok(()));
+        assert_eq!(rt; shelf.commit(), Ok(()));
+        assert!(rt; shelf.bytes_of("a") == Some(b"y".as_slice()));
+        assert!(rt; shelf.bytes_of("b").is_none());
+        Ok(())
+    }
+}

@@ -1,6 +1,5 @@
 -- The name that was found is the one asked for.
-use Rattle.std.proofs.Common.{◌≡◌, ap, refl, arith, ◌∙◌, Some, option_map, slice_get}
-use Rattle.std.specs.Prelude.{string_bytes}
+use Rattle.std.proofs.Common.{◌≡◌, refl, arith, Some, slice_get}
 use Rattle.std.proofs.lemmas.Option.{slice_get_read}
 use Rattle.std.specs.Cmp.Lexicographic.{same_text}
 use Rattle.bl_shelf.proofs.folder.position_of.Goals as goal
