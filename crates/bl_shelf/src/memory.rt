@@ -61,6 +61,7 @@ impl Shelf for MemoryShelf {
     ghost use Rattle.bl_shelf.specs.Told.{bytes_under, stage_in, push_in, commit_in, abandon_in};
     ghost use Rattle.bl_shelf.specs.Causes.{HasCause};
     ghost use Rattle.bl_shelf.specs.Contents.{IsSizeOf, Reaches, AreBytesAt, IsAbsentExactly};
+    ghost use Rattle.bl_shelf.specs.Steady.{steady_room-staged};
     ghost use Rattle.bl_shelf.specs.Memory.{memory_contents, memory_room, memory_takes_effect, memory_faults, memory_misses, failed_commit_in, IsDue, KeepsCounts, CountsCall};
 
     ghost told = { λ s. Some (memory_contents s) };
@@ -71,9 +72,7 @@ impl Shelf for MemoryShelf {
 
     ghost misses = { λ s. memory_misses s };
 
-    ghost use Rattle.std.proofs.Common.{rules};
-
-    ghost staged_with_room = { λ s. Prim.search rules };
+    ghost staged_with_room = { λ s. steady_room-staged s.shelf };
 
     fn size(&mut self, name: &str) -> Result<u64, ShelfFault>
         ensures contents { memory_contents self.new ≡ memory_contents self.old }
@@ -101,7 +100,8 @@ impl Shelf for MemoryShelf {
         requires { Reaches (Some (memory_contents self.old)) name.now (at + length dst.old) }
         ensures contents { memory_contents self.new ≡ memory_contents self.old }
         ensures room { memory_room self.new ≡ memory_room self.old }
-        ensures bytes { OnOk result (AreBytesAt (Some (memory_contents self.old)) name.now at dst.new) }
+        ensures bytes { OnOk result
+            (AreBytesAt (Some (memory_contents self.old)) name.now at dst.new) }
         ensures absent { IsAbsentExactly (Some (memory_contents self.old)) name.now result }
         ensures failed { IsErrOf result ShelfFault.Failed
             ↔ (IsDue self.old × IsSome (bytes_under name.now (memory_contents self.old))) }

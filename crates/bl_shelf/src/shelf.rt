@@ -76,7 +76,8 @@ pub trait Shelf {
     /// Begins a file of at most `total` bytes.
     fn stage(&mut self, name: &str, total: u64) -> Result<(), ShelfFault>
         requires { room self.old ≡ None }
-        ensures told { OnOk result (told self.new ≡ option_map (stage_in name.now) (told self.old)) }
+        ensures told { OnOk result
+            (told self.new ≡ option_map (stage_in name.now) (told self.old)) }
         ensures room { OnOk result (room self.new ≡ Some total) }
         ensures told_err { OnErr result (told self.new ≡ told self.old) }
         ensures room_err { OnErr result (room self.new ≡ None) }
@@ -88,7 +89,8 @@ pub trait Shelf {
     /// so the file can only be abandoned.
     fn push(&mut self, bytes: &[u8]) -> Result<(), ShelfFault>
         requires { IsSomeAnd (room self.old) (λ room. length bytes.now ≤ room) }
-        ensures told { OnOk result (told self.new ≡ option_map (push_in bytes.now) (told self.old)) }
+        ensures told { OnOk result
+            (told self.new ≡ option_map (push_in bytes.now) (told self.old)) }
         ensures room { OnOk result
             (room self.new ≡ option_map (λ room. room - length bytes.now) (room self.old)) }
         ensures held_err { OnErr result (held_of (told self.new) ≡ held_of (told self.old)) }
@@ -116,5 +118,6 @@ pub trait Shelf {
         ensures misses { misses self.new ≡ misses self.old };
 
     /// A file is staged exactly where there is room.
-    ghost staged_with_room: { (s : Self) → IfSome (told s) (λ t. is_some t.staged ≡ is_some (room s)) };
+    ghost staged_with_room: { (s : Self)
+        → IfSome (told s) (λ t. is_some t.staged ≡ is_some (room s)) };
 }

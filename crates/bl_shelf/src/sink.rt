@@ -43,6 +43,7 @@ pub trait Sink {
     fn put(&mut self, bytes: &[u8]) -> Result<(), SinkFault>
         ensures ok { OnOk result (Grows (written self.old) bytes.now (written self.new)) }
         ensures part { GrowsByPrefix (written self.old) bytes.now (written self.new) }
-        ensures no_memory { IsErrOf result SinkFault.NoMemory → written self.new ≡ written self.old }
+        ensures no_memory { IsErrOf result SinkFault.NoMemory
+            → written self.new ≡ written self.old }
         ensures cause { HasSinkCause (faults self.old) (faults self.new) result };
 }

@@ -70,7 +70,7 @@ impl Shelf for SteadyShelf {
     ghost use Rattle.bl_shelf.specs.Told.{bytes_under, stage_in, push_in, commit_in, abandon_in};
     ghost use Rattle.bl_shelf.specs.Causes.{HasCause, misses_after};
     ghost use Rattle.bl_shelf.specs.Contents.{IsSizeOf, Reaches, AreBytesAt, IsAbsentExactly};
-    ghost use Rattle.bl_shelf.specs.Steady.{steady_contents, steady_room, steady_misses};
+    ghost use Rattle.bl_shelf.specs.Steady.{steady_contents, steady_room, steady_misses, steady_room-staged};
 
     ghost told = { λ s. Some (steady_contents s) };
 
@@ -80,9 +80,7 @@ impl Shelf for SteadyShelf {
 
     ghost misses = { λ s. steady_misses s };
 
-    ghost use Rattle.std.proofs.Common.{rules};
-
-    ghost staged_with_room = { λ s. Prim.search rules };
+    ghost staged_with_room = { steady_room-staged };
 
     fn size(&mut self, name: &str) -> Result<u64, ShelfFault>
         ensures contents { steady_contents self.new ≡ steady_contents self.old }
@@ -109,7 +107,8 @@ impl Shelf for SteadyShelf {
         ensures room { steady_room self.new ≡ steady_room self.old }
         ensures misses { steady_misses self.new ≡ misses_after result (steady_misses self.old) }
         ensures cause { HasCause 0 0 (steady_misses self.old) (steady_misses self.new) result }
-        ensures bytes { OnOk result (AreBytesAt (Some (steady_contents self.old)) name.now at dst.new) }
+        ensures bytes { OnOk result
+            (AreBytesAt (Some (steady_contents self.old)) name.now at dst.new) }
         ensures absent { IsAbsentExactly (Some (steady_contents self.old)) name.now result }
         ensures fault { OnErr result (result ≡ Err ShelfFault.Absent) }
     {
