@@ -16,7 +16,7 @@ use Rattle.bl_commands.specs.declared.report.Row.{Row}
 use Rattle.bl_commands.specs.declared.report.Value.{Value as Shown}
 use Rattle.bl_commands.specs.declared.report.Value.TheVariants.{Whole, Bits, Node as ShownNode, Bytes, Chars}
 use Rattle.bl_format.specs.Words.{part, numbers_below}
-use Rattle.bl_format.specs.Layout.{MemberStep, NamedLeaf, named_leaves, struct_numbers, member_numbers, struct_name, struct_named, struct_length, name_at, member_at, type_at, name_of, member_size, member_offset}
+use Rattle.bl_format.specs.Layout.{MemberStep, NamedLeaf, named_leaves, struct_numbers, member_numbers, struct_name, struct_named, struct_length, name_entry, member_entry, type_entry, name_of, member_size, member_offset}
 use Rattle.std.specs.List.{enumerate_from}
 use Rattle.bl_format.specs.Graph.{Target, Value, Number, Pattern, Points, Opaque, Fields, Contents, IsBytes, IsNumbers, IsPointers, IsPair, Node, Struct, Raw, path_of}
 use Rattle.bl_selection.specs.Fate.{fate_of, is_char}
@@ -30,11 +30,11 @@ order_text Little = codes "little"
 order_text Big = codes "big"
 
 abbrev pub member_name : Catalogue → ℕ → ℕ → List ℕ
-member_name c s k = name_at c (member_at c s k).name_number
+member_name c s k = name_entry c (member_entry c s k).name_number
 
 abbrev pub member_line : Catalogue → Width → ℕ → ℕ → Text
 member_line c w s k =
-    let type_name = (type_at c (member_at c s k).type_number).name in
+    let type_name = (type_entry c (member_entry c s k).type_number).name in
     let numbers = decimal (member_offset c w s k) ∷ decimal (member_size c w s k) ∷ [] in
     codes "  " ++ line (numbers ++ shown_bytes type_name ∷ shown_bytes (member_name c s k) ∷ [])
 

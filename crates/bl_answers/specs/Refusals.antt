@@ -5,8 +5,8 @@ use Rattle.std.specs.List.{list_any, find}
 use Rattle.std.specs.Option.{option_or}
 use Rattle.std.specs.Str.{bytes_eq}
 use Rattle.bl_format.specs.declared.catalogue.Catalogue.{Catalogue}
-use Rattle.bl_format.specs.Words.{first_place}
-use Rattle.bl_format.specs.Layout.{struct_named, struct_name, name_of, first_some}
+use Rattle.bl_format.specs.Words.{find_map, first_place}
+use Rattle.bl_format.specs.Layout.{struct_named, struct_name, name_of}
 use Rattle.bl_format.specs.Nodes.{has_id_part, is_id}
 use Rattle.bl_selection.specs.Selection.{index_under, no_head, selection_clash}
 use Rattle.bl_linking.specs.References.{node_in, node_struct, id_struct, name_capacity, char_array, path_array}
@@ -53,7 +53,7 @@ file_order os = 0 ∷ other_files os
 
 -- the first needed placeholder that stands for nothing, by file and then by node
 unfoldable pub missing_datablock : List Opened → Option (ℕ × ℕ)
-missing_datablock os = first_some first_in (file_order os)
+missing_datablock os = find_map first_in (file_order os)
   where
     is_missing : ℕ → ℕ → Bool
     is_missing i p =
@@ -104,7 +104,7 @@ append_no_struct m roots =
     let c = catalogue_in m.a in
     let news = added_in (branches m) in
     option_or (if nat_lt 0 (length news) then lacking c else None)
-    (option_or (first_some (unfit c m.b) news) (first_some (unfit_root m) roots))
+    (option_or (find_map (unfit c m.b) news) (find_map (unfit_root m) roots))
 
 -- the placeholders to be made by link, by name
 abbrev pub names_to_make : Source → List ℕ → List (List ℕ) → List (List ℕ)
@@ -122,7 +122,7 @@ link_no_struct a path roots =
 
 -- resolve: the first ID that a placeholder of IN stands for and that is none under IN's catalogue
 unfoldable pub resolve_no_struct : List Opened → Option (List ℕ)
-resolve_no_struct os = first_some unfit_at (placeholders (opened_at os 0))
+resolve_no_struct os = find_map unfit_at (placeholders (opened_at os 0))
   where
     unfit_here : ℕ × ℕ → Option (List ℕ)
     unfit_here p = unfit (catalogue_in (opened_at os 0)) (opened_at os p.0) p.1
@@ -144,7 +144,7 @@ abbrev pub told_as : Bool → Option ℕ → Option (Bool × ℕ)
 told_as path length = option_map (λ n. (path, n)) length
 
 abbrev pub long_in : Merge → Branch → Option (Bool × ℕ)
-long_in m x = option_or (long_path x.library) (first_some long_name x.placeholders)
+long_in m x = option_or (long_path x.library) (find_map long_name x.placeholders)
   where
     c : Catalogue
     c = catalogue_in m.a
@@ -159,7 +159,7 @@ long_in m x = option_or (long_path x.library) (first_some long_name x.placeholde
 
 -- the first path or name of append that is too long
 unfoldable pub append_too_long : Merge → Option (Bool × ℕ)
-append_too_long m = first_some (long_in m) (branches m)
+append_too_long m = find_map (long_in m) (branches m)
 
 -- the first path or name of link that is too long
 unfoldable pub link_too_long : Source → List ℕ → List (List ℕ) → Option (Bool × ℕ)
@@ -167,7 +167,7 @@ link_too_long a path roots =
     let c = catalogue_in a in
     let path_length = if is_some (library_named a path) then None else too_long (codes "//" ++ path) (path_capacity c) in
     let long_name = λ (name : List ℕ). told_as false (too_long name (name_capacity c)) in
-    option_or (told_as true path_length) (first_some long_name (names_to_make a path roots))
+    option_or (told_as true path_length) (find_map long_name (names_to_make a path roots))
 
 -- how many libraries the output of link has
 abbrev pub linked_libraries : Source → List ℕ → ℕ
@@ -179,7 +179,7 @@ abbrev pub ending_if : Bool → Ending → Option Ending
 ending_if test ending = if test then Some ending else None
 
 abbrev pub first_of : List (Option Ending) → Option Ending
-first_of os = first_some (λ o. o) os
+first_of os = find_map (λ o. o) os
 
 -- a file of a merge, by its shelf name: the faults of its IDs, and then of its libraries
 unfoldable pub file_refusal : List ℕ → Source → Option Ending

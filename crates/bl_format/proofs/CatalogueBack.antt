@@ -14,8 +14,8 @@ use Rattle.bl_format.specs.declared.catalogue.Catalogue.{Catalogue}
 use Rattle.bl_format.specs.declared.catalogue.TypeEntry.{TypeEntry}
 use Rattle.bl_format.specs.declared.catalogue.StructEntry.{StructEntry}
 use Rattle.bl_format.specs.declared.catalogue.MemberEntry.{MemberEntry}
-use Rattle.bl_format.specs.Words.{part, is_one_of, aligned, zeros}
-use Rattle.bl_format.specs.Schema.{Field, tag_at, count_at, index_at, name_at, many_at, type_names_at, member_at, structs_at, name_written, member_written, struct_written, type_entries, padding_of, names_part, types_part, lengths_part, structs_part, catalogue_of, catalogue_written, IsName, MemberFits, StructFits, IsCatalogue, IsPayload}
+use Rattle.bl_format.specs.Words.{part, is_one_of, aligned_place, zeros}
+use Rattle.bl_format.specs.Schema.{Reading, tag_at, count_at, index_at, name_at, many_at, type_names_at, member_at, structs_at, name_written, member_written, struct_written, type_entries, padding_of, names_part, types_part, lengths_part, structs_part, catalogue_of, catalogue_written, IsName, MemberFits, StructFits, IsCatalogue, IsPayload}
 use Rattle.bl_format.proofs.HeadBack.{length-spelled, number_back}
 
 -- how much stands behind a place
@@ -75,7 +75,7 @@ name_back name at p back is stands =
     rw (found, text) refl
 
 -- things that are read back one by one are read back one after another
-pub many_back : {A : Type 0} (one : ℕ → Field A) (write : A → List ℕ) (P : A → Type 0) (p : List ℕ)
+pub many_back : {A : Type 0} (one : ℕ → Reading A) (write : A → List ℕ) (P : A → Type 0) (p : List ℕ)
     → ((x : A) (at : ℕ) (back : List ℕ) → P x → drop at p ≡ write x ++ back → one at ≡ Ok (x, at + length (write x)))
     → (xs : List A) (at : ℕ) (back : List ℕ) → All P xs → drop at p ≡ flat_map write xs ++ back → many_at one (length xs) at ≡ Ok (xs, at + length (flat_map write xs))
 unfolding many_at
@@ -220,7 +220,7 @@ payload_back order c p f =
     let all-names = many_back (name_at p) name_written IsName p (written_name_back p) c.names 12 after-names is.names at-12 in
     let names-end : ℕ = 12 + length names in
     -- the types
-    let t : ℕ = aligned names-end in
+    let t : ℕ = aligned_place names-end in
     let names-len : length (names_part order c) ≡ names-end = omega (arith, length-append (codes "SDNANAME" ++ named (length c.names)) names, length-append (codes "SDNANAME") (named (length c.names)), names-count) in
     let types-place : names-end + length f.before_types ≡ t = omega (arith, f.types_aligned, names-len) in
     let at-t : drop t p ≡ codes "TYPE" ++ (named (length c.types) ++ (types ++ after-types)) = ap (λ (n : ℕ). drop n p) (sym types-place) ∙ behind p f.before_types (codes "TYPE" ++ (named (length c.types) ++ (types ++ after-types))) names-end (behind p names after-names 12 at-12) in
@@ -232,7 +232,7 @@ payload_back order c p f =
     let types-number : length (map (λ (u : TypeEntry). u.name) c.types) ≡ length c.types = length-map c.types (λ (u : TypeEntry). u.name) in
     let types-end : ℕ = t + 4 + 4 + length types in
     -- their lengths
-    let l : ℕ = aligned types-end in
+    let l : ℕ = aligned_place types-end in
     let types-len : length (types_part order c) ≡ 8 + length types = omega (arith, length-append (codes "TYPE" ++ named (length c.types)) types, length-append (codes "TYPE") (named (length c.types)), types-count) in
     let lengths-place : types-end + length f.before_lengths ≡ l = omega (arith, f.lengths_aligned, types-len) in
     let at-l : drop l p ≡ codes "TLEN" ++ (lengths ++ after-lengths) = ap (λ (n : ℕ). drop n p) (sym lengths-place) ∙ behind p f.before_lengths (codes "TLEN" ++ (lengths ++ after-lengths)) types-end (behind p types after-types (t + 4 + 4) at-t8) in
@@ -241,7 +241,7 @@ payload_back order c p f =
     let all-lengths = lengths_back order p c.types (l + 4) after-lengths is.lengths_fit at-l4 in
     let lengths-end : ℕ = l + 4 + length lengths in
     -- the structs
-    let s : ℕ = aligned lengths-end in
+    let s : ℕ = aligned_place lengths-end in
     let lengths-len : length (lengths_part order c) ≡ 4 + length lengths = length-append (codes "TLEN") lengths in
     let structs-place : lengths-end + length f.before_structs ≡ s = omega (arith, f.structs_aligned, lengths-len) in
     let at-s : drop s p ≡ codes "STRC" ++ (named (length c.structs) ++ (structs ++ f.rest)) = ap (λ (n : ℕ). drop n p) (sym structs-place) ∙ behind p f.before_structs (codes "STRC" ++ (named (length c.structs) ++ (structs ++ f.rest))) lengths-end (behind p lengths after-lengths (l + 4) at-l4) in

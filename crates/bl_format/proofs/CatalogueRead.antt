@@ -17,10 +17,10 @@ use Rattle.bl_format.specs.declared.catalogue.Catalogue.{Catalogue}
 use Rattle.bl_format.specs.declared.catalogue.TypeEntry.{TypeEntry}
 use Rattle.bl_format.specs.declared.catalogue.StructEntry.{StructEntry}
 use Rattle.bl_format.specs.declared.catalogue.MemberEntry.{MemberEntry}
-use Rattle.bl_format.specs.Words.{part, number_at, is_one_of, aligned}
+use Rattle.bl_format.specs.Words.{part, number_at, is_one_of, aligned_place}
 use Rattle.bl_format.specs.declared.catalogue.SdnaFault.TheVariants.{CutShort, TwoTypes, TwoStructs}
 use Rattle.bl_format.proofs.CatalogueBack.{catalogue_back}
-use Rattle.bl_format.specs.Schema.{◌>>=◌, Field, ensure, count_at, index_at, name_by, name_at, many_at, type_names_at, member_at, structs_at, type_entries, names_at, types_at, lengths_at, all_structs_at, catalogue_of, catalogue_written, tag_at, IsName, MemberFits, StructFits, IsCatalogue}
+use Rattle.bl_format.specs.Schema.{◌>>=◌, Reading, ensure, count_at, index_at, name_by, name_at, many_at, type_names_at, member_at, structs_at, type_entries, names_at, types_at, lengths_at, all_structs_at, catalogue_of, catalogue_written, tag_at, IsName, MemberFits, StructFits, IsCatalogue}
 
 IsByte : ℕ → Type 0
 IsByte b = b < 256
@@ -96,7 +96,7 @@ name_ok p at v e = go (nat_lt (position_or_len (λ b. b == 0) (drop at p)) (leng
 
 -- ---- many things
 
-many_all : {A : Type 0} (one : ℕ → Field A) (P : A → Type 0) → ((at : ℕ) (v : A × ℕ) → one at ≡ Ok v → P v.0) → (n at : ℕ) (v : List A × ℕ) → many_at one n at ≡ Ok v → All P v.0 × (length v.0 ≡ n)
+many_all : {A : Type 0} (one : ℕ → Reading A) (P : A → Type 0) → ((at : ℕ) (v : A × ℕ) → one at ≡ Ok v → P v.0) → (n at : ℕ) (v : List A × ℕ) → many_at one n at ≡ Ok v → All P v.0 × (length v.0 ≡ n)
 unfolding many_at
 many_all {A} one P holds_struct zero at v e = subst (λ (x : List A × ℕ). All P x.0 × (length x.0 ≡ 0)) (ok_same ([], at) v e) ((λ k d lt. absurd (omega (arith, lt))), refl)
 many_all {A} one P holds_struct (suc n) at v e =
@@ -239,20 +239,20 @@ names_ok order p v all e =
 
 types_ok : (order : Order) (p : List ℕ) (at : ℕ) (v : List (List ℕ) × ℕ) → All (λ b. b < 256) p → types_at order p at ≡ Ok v → (n : ℕ) × AreTypeNames [] n v.0 × (n < 2 ^ 32)
 types_ok order p at v all e =
-    let tag = bind_ok (tag_at (codes "TYPE") p (aligned at)) _ v e in
+    let tag = bind_ok (tag_at (codes "TYPE") p (aligned_place at)) _ v e in
     let n = bind_ok (count_at order 4 p tag.0) _ v tag.2 in
     let few = count_lt order 4 p tag.0 n.0 all n.1 in
     (n.0.0, type_names_ok p n.0.0 [] n.0.1 v n.2, omega (arith, few))
 
 lengths_ok : (order : Order) (types : ℕ) (p : List ℕ) (at : ℕ) (v : List ℕ × ℕ) → All (λ b. b < 256) p → lengths_at order types p at ≡ Ok v → All (λ n. n < 2 ^ 16) v.0 × (length v.0 ≡ types)
 lengths_ok order types p at v all e =
-    let tag = bind_ok (tag_at (codes "TLEN") p (aligned at)) _ v e in
+    let tag = bind_ok (tag_at (codes "TLEN") p (aligned_place at)) _ v e in
     many_all (count_at order 2 p) (λ n. n < 2 ^ 16) (λ i w h. let lt = count_lt order 2 p i w all h in omega (arith, lt)) types tag.0 v tag.2
 
 all_structs_ok : (order : Order) (c : Catalogue) (types names : ℕ) (p : List ℕ) (at : ℕ) (v : List StructEntry × ℕ) → types ≡ length c.types → names ≡ length c.names → All (λ b. b < 256) p
     → all_structs_at order types names p at ≡ Ok v → (n : ℕ) × AreStructs c [] n v.0 × (n < 2 ^ 32)
 all_structs_ok order c types names p at v et en all e =
-    let tag = bind_ok (tag_at (codes "STRC") p (aligned at)) _ v e in
+    let tag = bind_ok (tag_at (codes "STRC") p (aligned_place at)) _ v e in
     let n = bind_ok (count_at order 4 p tag.0) _ v tag.2 in
     let few = count_lt order 4 p tag.0 n.0 all n.1 in
     (n.0.0, structs_ok order c types names p n.0.0 [] n.0.1 v et en all n.2, omega (arith, few))

@@ -4,7 +4,7 @@ use Rattle.std.specs.Prelude.{max, map, flat_map, filter_map, fold}
 use Rattle.bl_num.specs.declared.number.Width.{Width}
 use Rattle.bl_format.specs.declared.catalogue.Catalogue.{Catalogue}
 use Rattle.bl_format.specs.Words.{numbers_below}
-use Rattle.bl_format.specs.Layout.{NamedLeaf, struct_at, inner_struct, member_leaves, leaves_within, nesting_within}
+use Rattle.bl_format.specs.Layout.{NamedLeaf, struct_entry, inner_struct, member_leaves, leaves_within, nesting_within}
 
 -- the greatest of some numbers is below a bound, so each is
 fold_max-le : (a : ℕ) (xs : List ℕ) → a ≤ fold max a xs
@@ -36,4 +36,4 @@ members_same p q f c w s a n (k ∷ ks) agree lt = go (inner_struct c s k) refl 
 pub enough : (n : ℕ) (c : Catalogue) (w : Width) (s : ℕ) → nesting_within n c s < n → leaves_within n c w s ≡ leaves_within (suc n) c w s
 unfolding leaves_within nesting_within
 enough zero c w s lt = absurd (omega arith)
-enough (suc n) c w s lt = members_same (leaves_within n c w) (leaves_within (suc n) c w) (nesting_within n c) c w s 0 n (numbers_below (length (struct_at c s).members)) (λ t h. enough n c w t h) (omega arith)
+enough (suc n) c w s lt = members_same (leaves_within n c w) (leaves_within (suc n) c w) (nesting_within n c) c w s 0 n (numbers_below (length (struct_entry c s).members)) (λ t h. enough n c w t h) (omega arith)

@@ -15,7 +15,7 @@ use Rattle.bl_format.specs.declared.layout.Leaf.{Leaf}
 use Rattle.bl_format.specs.declared.layout.Shape.{Shape}
 use Rattle.bl_format.specs.declared.layout.LayoutFault.{LayoutFault}
 use Rattle.bl_format.specs.declared.layout.LayoutFault.TheVariants.{BadName, BasicLength, Overrun, Cyclic, DuplicateMember, TooDeep, TooManyLeaves}
-use Rattle.bl_format.specs.Words.{first_place, numbers_below, is_one_of, contains, numbers_reached}
+use Rattle.bl_format.specs.Words.{find_map, first_place, numbers_below, is_one_of, contains, numbers_reached}
 use Rattle.bl_format.specs.Members.{MemberName, member_name, other_name}
 use Rattle.bl_format.specs.Schema.{CanBeRead}
 
@@ -24,18 +24,18 @@ use Rattle.bl_format.specs.Schema.{CanBeRead}
 -- A number out of range gives something without a name, a length or members: a struct or a member that
 -- isn't there has the first type number and name number that aren't there either.
 
-abbrev pub type_at : Catalogue → ℕ → TypeEntry
-type_at c t = get_or c.types t (record { name = []; length = 0 })
+abbrev pub type_entry : Catalogue → ℕ → TypeEntry
+type_entry c t = get_or c.types t (record { name = []; length = 0 })
 
-abbrev pub struct_at : Catalogue → ℕ → StructEntry
-struct_at c s = get_or c.structs s (record { type_number = length c.types; members = [] })
+abbrev pub struct_entry : Catalogue → ℕ → StructEntry
+struct_entry c s = get_or c.structs s (record { type_number = length c.types; members = [] })
 
-abbrev pub member_at : Catalogue → ℕ → ℕ → MemberEntry
-member_at c s k = get_or (struct_at c s).members k (record { type_number = length c.types; name_number = length c.names })
+abbrev pub member_entry : Catalogue → ℕ → ℕ → MemberEntry
+member_entry c s k = get_or (struct_entry c s).members k (record { type_number = length c.types; name_number = length c.names })
 
 -- how many members a struct has
 abbrev pub member_count : Catalogue → ℕ → ℕ
-member_count c s = length (struct_at c s).members
+member_count c s = length (struct_entry c s).members
 
 -- the numbers of all structs, and of a struct's members
 abbrev pub struct_numbers : Catalogue → List ℕ
@@ -44,14 +44,14 @@ struct_numbers c = numbers_below (length c.structs)
 abbrev pub member_numbers : Catalogue → ℕ → List ℕ
 member_numbers c s = numbers_below (member_count c s)
 
-abbrev pub name_at : Catalogue → ℕ → List ℕ
-name_at c n = get_or c.names n []
+abbrev pub name_entry : Catalogue → ℕ → List ℕ
+name_entry c n = get_or c.names n []
 
 abbrev pub struct_name : Catalogue → ℕ → List ℕ
-struct_name c s = (type_at c (struct_at c s).type_number).name
+struct_name c s = (type_entry c (struct_entry c s).type_number).name
 
 abbrev pub struct_length : Catalogue → ℕ → ℕ
-struct_length c s = (type_at c (struct_at c s).type_number).length
+struct_length c s = (type_entry c (struct_entry c s).type_number).length
 
 -- the number of the type of a name
 unfoldable pub type_named : Catalogue → List ℕ → Option ℕ
@@ -62,12 +62,12 @@ abbrev pub struct_of_type : Catalogue → ℕ → Option ℕ
 struct_of_type c t = first_place (λ s. s.type_number == t) c.structs
 
 unfoldable pub struct_named : Catalogue → List ℕ → Option ℕ
-struct_named c name = first_place (λ s. bytes_eq (type_at c s.type_number).name name) c.structs
+struct_named c name = first_place (λ s. bytes_eq (type_entry c s.type_number).name name) c.structs
 
 -- the parts of a member's name, of a bad name too
 unfoldable pub name_of : Catalogue → ℕ → ℕ → MemberName
 name_of c s k =
-    let name = name_at c (member_at c s k).name_number in
+    let name = name_entry c (member_entry c s k).name_number in
     unwrap_or (member_name name) (other_name name)
 
 -- ---- kinds of types
@@ -78,8 +78,8 @@ pub data Basic : Type 0 where
   IsFloat : (bytes : ℕ) → Basic
   IsVoid : Basic
 
-abbrev pub basics : List (List ℕ × Basic)
-basics =
+abbrev pub basic_types : List (List ℕ × Basic)
+basic_types =
     (codes "char", IsWhole true (1 ∷ [])) ∷ (codes "int8_t", IsWhole true (1 ∷ [])) ∷ (codes "uchar", IsWhole false (1 ∷ []))
     ∷ (codes "short", IsWhole true (2 ∷ [])) ∷ (codes "ushort", IsWhole false (2 ∷ [])) ∷ (codes "int", IsWhole true (4 ∷ []))
     ∷ (codes "long", IsWhole true (4 ∷ 8 ∷ [])) ∷ (codes "ulong", IsWhole false (4 ∷ 8 ∷ []))
@@ -87,12 +87,12 @@ basics =
     ∷ (codes "float", IsFloat 4) ∷ (codes "double", IsFloat 8) ∷ (codes "void", IsVoid) ∷ []
 
 unfoldable pub basic_named : List ℕ → Option Basic
-basic_named name = option_map (λ e. e.1) (find (λ e. bytes_eq e.0 name) basics)
+basic_named name = option_map (λ e. e.1) (find (λ e. bytes_eq e.0 name) basic_types)
 
-abbrev pub lengths_of : Basic → List ℕ
-lengths_of (IsWhole signed ls) = ls
-lengths_of (IsFloat n) = n ∷ []
-lengths_of IsVoid = 0 ∷ []
+abbrev pub lengths_of_basic : Basic → List ℕ
+lengths_of_basic (IsWhole signed ls) = ls
+lengths_of_basic (IsFloat n) = n ∷ []
+lengths_of_basic IsVoid = 0 ∷ []
 
 -- what a member by value holds: a basic type, a struct, or opaque bytes
 pub data Content : Type 0 where
@@ -109,22 +109,22 @@ content_by c t (Some b) = IsBasic b
 content_by c t None = content_else (struct_of_type c t)
 
 unfoldable pub content_of : Catalogue → ℕ → Content
-content_of c t = content_by c t (basic_named (type_at c t).name)
+content_of c t = content_by c t (basic_named (type_entry c t).name)
 
 -- the struct that a member is, by value
-abbrev pub struct_in : Content → Option ℕ
-struct_in (IsBasic b) = None
-struct_in (IsStruct s) = Some s
-struct_in IsOpaque = None
+abbrev pub struct_of_content : Content → Option ℕ
+struct_of_content (IsBasic b) = None
+struct_of_content (IsStruct s) = Some s
+struct_of_content IsOpaque = None
 
 unfoldable pub inner_struct : Catalogue → ℕ → ℕ → Option ℕ
-inner_struct c s k = if (name_of c s k).pointer then None else struct_in (content_of c (member_at c s k).type_number)
+inner_struct c s k = if (name_of c s k).pointer then None else struct_of_content (content_of c (member_entry c s k).type_number)
 
 -- ---- sizes and offsets
 
 -- the bytes of one element
 unfoldable pub element_size : Catalogue → Width → ℕ → ℕ → ℕ
-element_size c w s k = if (name_of c s k).pointer then pointer_bytes w else (type_at c (member_at c s k).type_number).length
+element_size c w s k = if (name_of c s k).pointer then pointer_bytes w else (type_entry c (member_entry c s k).type_number).length
 
 unfoldable pub member_size : Catalogue → Width → ℕ → ℕ → ℕ
 member_size c w s k = element_size c w s k * (name_of c s k).count
@@ -149,21 +149,21 @@ leads_back c s (Some t) = contains (numbers_reached (holds_struct c) (length c.s
 
 -- a member's name has neither form, or too many elements
 abbrev pub has_bad_name : Catalogue → ℕ → ℕ → Bool
-has_bad_name c s k = not (is_some (member_name (name_at c (member_at c s k).name_number)))
+has_bad_name c s k = not (is_some (member_name (name_entry c (member_entry c s k).name_number)))
 
 -- its identifier stood before in its struct
 abbrev pub is_duplicate : Catalogue → ℕ → ℕ → Bool
 is_duplicate c s k = is_one_of (name_of c s k).identifier (map (λ j. (name_of c s j).identifier) (numbers_below k))
 
-abbrev pub bad_length : Option Basic → ℕ → Bool
-bad_length None n = false
-bad_length (Some b) n = not (contains (lengths_of b) n)
+abbrev pub is_bad_length : Option Basic → ℕ → Bool
+is_bad_length None n = false
+is_bad_length (Some b) n = not (contains (lengths_of_basic b) n)
 
 -- it is by value of a basic type of another length than the table's, or its struct has a basic type's name
 abbrev pub has_bad_length : Catalogue → ℕ → ℕ → Bool
 has_bad_length c s k =
-    let t = type_at c (member_at c s k).type_number in
-    is_some (basic_named (struct_name c s)) || (not (name_of c s k).pointer && bad_length (basic_named t.name) t.length)
+    let t = type_entry c (member_entry c s k).type_number in
+    is_some (basic_named (struct_name c s)) || (not (name_of c s k).pointer && is_bad_length (basic_named t.name) t.length)
 
 -- it passes the length of its struct's type
 abbrev pub overruns : Catalogue → Width → ℕ → ℕ → Bool
@@ -179,14 +179,9 @@ member_fault c w s k =
     if overruns c w s k then Some (Overrun s k) else
     None
 
--- the first of a list
-abbrev pub first_some : {A X : Type 0} → (A → Option X) → List A → Option X
-first_some f [] = None
-first_some f (x ∷ xs) = option_or (f x) (first_some f xs)
-
 -- struct by struct, and member by member
 unfoldable pub first_fault : Catalogue → Width → Option LayoutFault
-first_fault c w = first_some (λ s. first_some (member_fault c w s) (member_numbers c s)) (struct_numbers c)
+first_fault c w = find_map (λ s. find_map (member_fault c w s) (member_numbers c s)) (struct_numbers c)
 
 -- ---- leaves
 
@@ -219,7 +214,7 @@ member_step c s k e =
       owner = struct_name c s;
       key = n.key;
       identifier = n.identifier;
-      name_number = (member_at c s k).name_number;
+      name_number = (member_entry c s k).name_number;
       element = e;
     }
 
@@ -232,10 +227,10 @@ kind_of_content IsOpaque n = kinds.Opaque
 
 unfoldable pub kind_of : Catalogue → ℕ → ℕ → Kind
 kind_of c s k =
-    let t = (member_at c s k).type_number in
+    let t = (member_entry c s k).type_number in
     if (name_of c s k).pointer
     then kinds.Pointer (name_of c s k).depth t
-    else kind_of_content (content_of c t) (type_at c t).length
+    else kind_of_content (content_of c t) (type_entry c t).length
 
 -- the slot of a struct that stands behind a hop, so many bytes further on
 abbrev pub leaf_behind : MemberStep → ℕ → NamedLeaf → NamedLeaf
@@ -245,7 +240,7 @@ leaf_behind h by x = record x { way = h ∷ x.way; offset = by + x.offset }
 abbrev pub own_leaf : Catalogue → Width → ℕ → ℕ → NamedLeaf
 own_leaf c w s k = record {
   way = member_step c s k 0 ∷ [];
-  type_name = (type_at c (member_at c s k).type_number).name;
+  type_name = (type_entry c (member_entry c s k).type_number).name;
   kind = kind_of c s k;
   offset = member_offset c w s k;
   size = element_size c w s k;
@@ -323,7 +318,7 @@ nesting c s = nesting_within (length c.structs) c s
 
 -- the nesting of the first struct that passes the limit
 unfoldable pub depth_fault : Catalogue → Option LayoutFault
-depth_fault c = first_some (λ s. if nat_lt 32 (nesting c s) then Some (TooDeep (nesting c s)) else None) (struct_numbers c)
+depth_fault c = find_map (λ s. if nat_lt 32 (nesting c s) then Some (TooDeep (nesting c s)) else None) (struct_numbers c)
 
 -- how many leaves the structs below a number have together
 unfoldable pub leaves_below : Catalogue → Width → ℕ → ℕ
@@ -332,7 +327,7 @@ leaves_below c w s = sum (map (λ t. length (named_leaves c w t)) (numbers_below
 -- the leaves up to and with the first struct at which they pass the limit
 unfoldable pub leaves_fault : Catalogue → Width → Option LayoutFault
 leaves_fault c w =
-    first_some (λ s. if nat_lt 1048576 (leaves_below c w (suc s)) then Some (TooManyLeaves (leaves_below c w (suc s))) else None) (struct_numbers c)
+    find_map (λ s. if nat_lt 1048576 (leaves_below c w (suc s)) then Some (TooManyLeaves (leaves_below c w (suc s))) else None) (struct_numbers c)
 
 -- the first fault by name, else the first struct past a limit: first on nesting, then on leaves
 unfoldable pub layout_fault : Catalogue → Width → Option LayoutFault

@@ -13,10 +13,10 @@ use Rattle.bl_format.specs.declared.layout.LayoutFault.{LayoutFault}
 use Rattle.bl_format.specs.declared.raw.RawKind.{RawKind}
 use Rattle.bl_format.specs.declared.raw.RawKind.TheVariants.{Bytes, Numbers, Pointers, Pair}
 use Rattle.bl_format.specs.declared.raw.View.{View}
-use Rattle.bl_format.specs.Words.{part, last_place, contains}
+use Rattle.bl_format.specs.Words.{find_map, part, last_place, contains}
 use Rattle.bl_format.specs.Blocks.{header_of, Reads, Breaks, head_size, is_two_letter}
 use Rattle.bl_format.specs.Schema.{catalogue_of}
-use Rattle.bl_format.specs.Layout.{Basic, IsWhole, IsFloat, IsVoid, basic_named, type_at, member_count, struct_name, struct_length, name_of, inner_struct, first_some, layout_fault}
+use Rattle.bl_format.specs.Layout.{Basic, IsWhole, IsFloat, IsVoid, basic_named, type_entry, member_count, struct_name, struct_length, name_of, inner_struct, layout_fault}
 
 -- ---- files
 
@@ -66,7 +66,7 @@ pub record Accepted (b : List ℕ) (f : File) : Type 0 where
   pub reads : ReadsCatalogue b f.header blocks f.catalogue
   pub no_layout_fault : layout_fault f.catalogue f.header.width ≡ None
   pub nodes : f.nodes ≡ nodes_in blocks
-  pub no_node_fault : first_some (node_fault f.catalogue) f.nodes ≡ None
+  pub no_node_fault : find_map (node_fault f.catalogue) f.nodes ≡ None
   pub bytes : f.bytes ≡ b
 
 -- why bytes aren't accepted, in the order of the checks
@@ -92,7 +92,7 @@ IsRefused b NoCatalogue = (h : Header) × (blocks : List Head) × Reads b h bloc
 IsRefused b (TwoCatalogues at) = (h : Header) × (blocks : List Head) × Reads b h blocks × IsSecondAt (catalogues_in blocks) at
 IsRefused b (InCatalogue fault) = (h : Header) × (blocks : List Head) × (place : Head) × Reads b h blocks × (catalogues_in blocks ≡ place ∷ []) × (catalogue_of h.order (payload h b place) ≡ Err fault)
 IsRefused b (InLayout fault) = (h : Header) × (blocks : List Head) × (c : Catalogue) × ReadsCatalogue b h blocks c × (layout_fault c h.width ≡ Some fault)
-IsRefused b (InNode fault) = (h : Header) × (blocks : List Head) × (c : Catalogue) × ReadsCatalogue b h blocks c × (layout_fault c h.width ≡ None) × (first_some (node_fault c) (nodes_in blocks) ≡ Some fault)
+IsRefused b (InNode fault) = (h : Header) × (blocks : List Head) × (c : Catalogue) × ReadsCatalogue b h blocks c × (layout_fault c h.width ≡ None) × (find_map (node_fault c) (nodes_in blocks) ≡ Some fault)
 
 -- ---- groups and IDs
 
@@ -167,7 +167,7 @@ abbrev pub pointed_length : Catalogue → ℕ → Option Basic → Option ℕ
 pointed_length c t None = None
 pointed_length c t (Some (IsWhole signed (n ∷ []))) = Some n
 pointed_length c t (Some (IsWhole signed ns)) =
-    let n = (type_at c t).length in
+    let n = (type_entry c t).length in
     if contains ns n then Some n else None
 pointed_length c t (Some (IsFloat n)) = Some n
 pointed_length c t (Some IsVoid) = Some 0
@@ -187,7 +187,7 @@ view_of _ basic = Some Bytes
 
 -- the same by the type's number
 abbrev pub view_of_type : Catalogue → ℕ → ℕ → Option RawKind
-view_of_type c depth t = view_of depth (pointed_length c t (basic_named (type_at c t).name))
+view_of_type c depth t = view_of depth (pointed_length c t (basic_named (type_entry c t).name))
 
 -- the one kind that all views agree on
 abbrev pub common_kind : List RawKind → RawKind

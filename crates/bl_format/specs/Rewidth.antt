@@ -7,7 +7,8 @@ use Rattle.bl_format.specs.declared.catalogue.TypeEntry.{TypeEntry}
 use Rattle.std.specs.List.{enumerate_from}
 use Rattle.bl_format.specs.declared.layout.LayoutFault.{LayoutFault}
 use Rattle.bl_format.specs.declared.layout.LayoutFault.TheVariants.{TooLong}
-use Rattle.bl_format.specs.Layout.{struct_length, struct_of_type, struct_numbers, member_numbers, member_offset, member_count, name_of, inner_struct, type_at, member_at, first_some}
+use Rattle.bl_format.specs.Words.{find_map}
+use Rattle.bl_format.specs.Layout.{struct_length, struct_of_type, struct_numbers, member_numbers, member_offset, member_count, name_of, inner_struct, type_entry, member_entry}
 
 -- the bytes of a struct behind its last member
 unfoldable pub tail_of : Catalogue → Width → ℕ → ℕ
@@ -16,7 +17,7 @@ tail_of c w s = struct_length c s - member_offset c w s (member_count c s)
 -- the length of a struct by value, or else of the member's type
 abbrev pub new_type_length : (ℕ → ℕ) → Catalogue → ℕ → ℕ → Option ℕ → ℕ
 new_type_length lengths c s k (Some t) = lengths t
-new_type_length lengths c s k None = (type_at c (member_at c s k).type_number).length
+new_type_length lengths c s k None = (type_entry c (member_entry c s k).type_number).length
 
 -- the size of a member at a width, by the lengths of the structs in it
 abbrev pub new_size : (ℕ → ℕ) → Catalogue → Width → ℕ → ℕ → ℕ
@@ -43,4 +44,4 @@ rewidth c from to = record { names = c.names; types = map (λ (p : ℕ × TypeEn
 -- the new length of the first struct for which a type's length is too small
 unfoldable pub rewidth_fault : Catalogue → Width → Width → Option LayoutFault
 rewidth_fault c from to =
-    first_some (λ s. if nat_lt 65535 (new_length c from to s) then Some (TooLong (new_length c from to s)) else None) (struct_numbers c)
+    find_map (λ s. if nat_lt 65535 (new_length c from to s) then Some (TooLong (new_length c from to s)) else None) (struct_numbers c)

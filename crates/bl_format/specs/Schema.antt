@@ -11,11 +11,11 @@ use Rattle.bl_format.specs.declared.catalogue.StructEntry.{StructEntry}
 use Rattle.bl_format.specs.declared.catalogue.MemberEntry.{MemberEntry}
 use Rattle.bl_format.specs.declared.catalogue.SdnaFault.{SdnaFault}
 use Rattle.bl_format.specs.declared.catalogue.SdnaFault.TheVariants.{BadTag, CutShort, BadIndex, TwoTypes, TwoStructs, NoMemory}
-use Rattle.bl_format.specs.Words.{part, number_at, is_one_of, aligned, zeros}
+use Rattle.bl_format.specs.Words.{part, number_at, is_one_of, aligned_place, zeros}
 
 -- what is read at a place: a value and the place behind it
-abbrev pub Field : Type 0 → Type 0
-Field A = Result (A × ℕ) SdnaFault
+abbrev pub Reading : Type 0 → Type 0
+Reading A = Result (A × ℕ) SdnaFault
 
 infixl 10 ◌>>=◌
 abbrev pub ◌>>=◌ : {A B : Type 0} → Result A SdnaFault → (A → Result B SdnaFault) → Result B SdnaFault
@@ -44,27 +44,27 @@ tag_at tag p at =
     Err (BadTag at)
 
 -- a number of n bytes
-unfoldable pub count_at : Order → ℕ → List ℕ → ℕ → Field ℕ
+unfoldable pub count_at : Order → ℕ → List ℕ → ℕ → Reading ℕ
 count_at order n p at = if nat_lt (length p) (at + n) then Err (CutShort at) else Ok (number_at order p at n, at + n)
 
 -- a number of two bytes that is below n
-unfoldable pub index_at : Order → ℕ → List ℕ → ℕ → Field ℕ
+unfoldable pub index_at : Order → ℕ → List ℕ → ℕ → Reading ℕ
 index_at order n p at = do
   x ← count_at order 2 p at
   _ ← ensure (nat_lt x.0 n) (BadIndex at)
   Ok x
 
 -- the bytes before the zero at a distance, and the place behind it
-abbrev pub name_by : List ℕ → ℕ → Option ℕ → Field (List ℕ)
+abbrev pub name_by : List ℕ → ℕ → Option ℕ → Reading (List ℕ)
 name_by p at None = Err (CutShort at)
 name_by p at (Some n) = Ok (part p at n, at + n + 1)
 
 -- a name with the zero that ends it
-unfoldable pub name_at : List ℕ → ℕ → Field (List ℕ)
+unfoldable pub name_at : List ℕ → ℕ → Reading (List ℕ)
 name_at p at = name_by p at (position (λ b. b == 0) (drop at p))
 
 -- n things, one after another
-unfoldable pub many_at : {A : Type 0} → (ℕ → Field A) → ℕ → ℕ → Field (List A)
+unfoldable pub many_at : {A : Type 0} → (ℕ → Reading A) → ℕ → ℕ → Reading (List A)
 many_at one zero at = Ok ([], at)
 many_at one (suc n) at = do
   first ← one at
@@ -72,7 +72,7 @@ many_at one (suc n) at = do
   Ok (first.0 ∷ others.0, others.1)
 
 -- n type names, none of which stood before
-unfoldable pub type_names_at : List ℕ → List (List ℕ) → ℕ → ℕ → Field (List (List ℕ))
+unfoldable pub type_names_at : List ℕ → List (List ℕ) → ℕ → ℕ → Reading (List (List ℕ))
 type_names_at p before zero at = Ok ([], at)
 type_names_at p before (suc n) at = do
   name ← name_at p at
@@ -81,14 +81,14 @@ type_names_at p before (suc n) at = do
   Ok (name.0 ∷ others.0, others.1)
 
 -- a member: the number of its type and that of its name
-unfoldable pub member_at : Order → ℕ → ℕ → List ℕ → ℕ → Field MemberEntry
+unfoldable pub member_at : Order → ℕ → ℕ → List ℕ → ℕ → Reading MemberEntry
 member_at order types names p at = do
   t ← index_at order types p at
   n ← index_at order names p t.1
   Ok (record { type_number = t.0; name_number = n.0 }, n.1)
 
 -- n structs, none of a type that stood before
-unfoldable pub structs_at : Order → ℕ → ℕ → List ℕ → List ℕ → ℕ → ℕ → Field (List StructEntry)
+unfoldable pub structs_at : Order → ℕ → ℕ → List ℕ → List ℕ → ℕ → ℕ → Reading (List StructEntry)
 structs_at order types names p before zero at = Ok ([], at)
 structs_at order types names p before (suc n) at = do
   t ← index_at order types p at
@@ -102,7 +102,7 @@ abbrev pub type_entries : List (List ℕ) → List ℕ → List TypeEntry
 type_entries names lengths = map (λ x. record { name = x.0; length = x.1 }) (zip names lengths)
 
 -- the names of members, behind the first two tags
-abbrev pub names_at : Order → List ℕ → Field (List (List ℕ))
+abbrev pub names_at : Order → List ℕ → Reading (List (List ℕ))
 names_at order p = do
   a ← tag_at (codes "SDNA") p 0
   b ← tag_at (codes "NAME") p a
@@ -110,22 +110,22 @@ names_at order p = do
   many_at (name_at p) n.0 n.1
 
 -- the names of types
-abbrev pub types_at : Order → List ℕ → ℕ → Field (List (List ℕ))
+abbrev pub types_at : Order → List ℕ → ℕ → Reading (List (List ℕ))
 types_at order p at = do
-  a ← tag_at (codes "TYPE") p (aligned at)
+  a ← tag_at (codes "TYPE") p (aligned_place at)
   n ← count_at order 4 p a
   type_names_at p [] n.0 n.1
 
 -- the lengths of so many types
-abbrev pub lengths_at : Order → ℕ → List ℕ → ℕ → Field (List ℕ)
+abbrev pub lengths_at : Order → ℕ → List ℕ → ℕ → Reading (List ℕ)
 lengths_at order types p at = do
-  a ← tag_at (codes "TLEN") p (aligned at)
+  a ← tag_at (codes "TLEN") p (aligned_place at)
   many_at (count_at order 2 p) types a
 
 -- all structs, for so many types and names
-abbrev pub all_structs_at : Order → ℕ → ℕ → List ℕ → ℕ → Field (List StructEntry)
+abbrev pub all_structs_at : Order → ℕ → ℕ → List ℕ → ℕ → Reading (List StructEntry)
 all_structs_at order types names p at = do
-  a ← tag_at (codes "STRC") p (aligned at)
+  a ← tag_at (codes "STRC") p (aligned_place at)
   n ← count_at order 4 p a
   structs_at order types names p [] n.0 n.1
 
@@ -142,7 +142,7 @@ catalogue_of order p = do
 
 -- how many bytes stand between a part and the next multiple of 4
 abbrev pub padding_of : List ℕ → ℕ
-padding_of text = aligned (length text) - length text
+padding_of text = aligned_place (length text) - length text
 
 abbrev pub name_written : List ℕ → List ℕ
 name_written name = name ++ 0 ∷ []

@@ -10,7 +10,7 @@ use Rattle.bl_format.specs.declared.layout.Kind.{Kind}
 use Rattle.bl_format.specs.declared.layout.Kind.TheVariants as kinds
 use Rattle.bl_format.specs.declared.raw.RawKind.TheVariants as raw
 use Rattle.bl_format.specs.Words.{first_place, numbers_below, last_place, until_zero, numbers_reached, contains}
-use Rattle.bl_format.specs.Layout.{member_numbers, struct_named, name_of, kind_of, member_at, type_at}
+use Rattle.bl_format.specs.Layout.{member_numbers, struct_named, name_of, kind_of, member_entry, type_entry}
 use Rattle.bl_format.specs.Nodes.{is_id}
 use Rattle.std.specs.List.{enumerate_from}
 use Rattle.bl_format.specs.Graph.{Target, Value, Number, Points, Path, Fields, IsBytes, IsPointers, Node, Struct, Raw}
@@ -246,7 +246,7 @@ char_array c s identifier = option_and_then array_at (member_called c s identifi
     is_array : ℕ → Bool
     is_array k =
         not (name_of c s k).pointer
-        && bytes_eq (type_at c (member_at c s k).type_number).name (codes "char")
+        && bytes_eq (type_entry c (member_entry c s k).type_number).name (codes "char")
         && nat_le 2 (name_of c s k).count
 
     array_at : ℕ → Option (List ℕ × ℕ)

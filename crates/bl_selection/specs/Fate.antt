@@ -11,7 +11,7 @@ use Rattle.bl_format.specs.declared.layout.Kind.TheVariants as kinds
 use Rattle.bl_selection.specs.declared.draft.Fate.{Fate}
 use Rattle.bl_selection.specs.declared.draft.Fate.TheVariants as fates
 use Rattle.bl_format.specs.Words.{first_place, zeros}
-use Rattle.bl_format.specs.Layout.{MemberStep, NamedLeaf, Content, IsBasic, IsStruct, IsOpaque, IsWhole, IsFloat, content_of, type_at, member_at, member_numbers, member_size, name_of}
+use Rattle.bl_format.specs.Layout.{MemberStep, NamedLeaf, Content, IsBasic, IsStruct, IsOpaque, IsWhole, IsFloat, content_of, type_entry, member_entry, member_numbers, member_size, name_of}
 use Rattle.bl_format.specs.Graph.{Value, Number, Pattern, Points, Opaque, Naming, leaf_value}
 
 -- ---- one member
@@ -38,7 +38,7 @@ by_content IsOpaque IsOpaque name length counts = if name && length then counts 
 by_content _ _ name length counts = fates.Fresh
 
 abbrev pub member_type : Catalogue → ℕ → ℕ → ℕ
-member_type c s k = (member_at c s k).type_number
+member_type c s k = (member_entry c s k).type_number
 
 -- source member j of struct s, and target member k of struct t
 abbrev pub pair_fate : Catalogue → ℕ → ℕ → Catalogue → ℕ → ℕ → Fate
@@ -47,8 +47,8 @@ pair_fate from s j to t k =
     let b = name_of to t k in
     let m = member_type from s j in
     let n = member_type to t k in
-    let same_name = bytes_eq (type_at from m).name (type_at to n).name in
-    let same_length = (type_at from m).length == (type_at to n).length in
+    let same_name = bytes_eq (type_entry from m).name (type_entry to n).name in
+    let same_length = (type_entry from m).length == (type_entry to n).length in
     let counts = by_count a.count b.count in
     if a.pointer && b.pointer then counts else
     if a.pointer || b.pointer then fates.Fresh else

@@ -18,8 +18,8 @@ use Rattle.bl_selection.specs.declared.draft.MadeValue.{MadeValue}
 use Rattle.bl_selection.specs.declared.draft.MadeTo.{MadeTo}
 use Rattle.bl_selection.specs.declared.draft.MadeTo.TheVariants as to
 use Rattle.bl_selection.specs.declared.draft.Override.{Override}
-use Rattle.bl_format.specs.Words.{numbers_below, last_place}
-use Rattle.bl_format.specs.Layout.{NamedLeaf, named_leaves, struct_name, struct_named, first_some}
+use Rattle.bl_format.specs.Words.{find_map, numbers_below, last_place}
+use Rattle.bl_format.specs.Layout.{NamedLeaf, named_leaves, struct_name, struct_named}
 use Rattle.bl_format.specs.Nodes.{File, payload, is_data, group_of, is_id, raw_kind}
 use Rattle.std.specs.List.{enumerate_from}
 use Rattle.bl_format.specs.Graph.{Target, Value, Number, Pattern, Points, Opaque, Node, Struct, Raw, Naming, Cell, cells, fields, node_elements, contents_by, views_of, form_of, file_codes, file_names}
@@ -169,7 +169,7 @@ clash_of files d e = None
 
 -- the first by entry
 unfoldable pub selection_clash : List File → Draft → Option (ℕ × ℕ)
-selection_clash files d = first_some (clash_of files d) d.entries
+selection_clash files d = find_map (clash_of files d) d.entries
 
 -- ---- the graph
 
