@@ -4,7 +4,7 @@
 -- letters is spelled where the highest byte comes first, and the limit on blocks.
 use Rattle.std.specs.Prelude.{◌≡◌, ℕ, zero, suc, ◌+◌, ◌-◌, ◌*◌, ◌/◌, ◌%◌, ◌^◌, ◌<◌, ◌≤◌, Bool, false, not, ◌&&◌, ◌||◌, ◌==◌, nat_le, nat_lt, if◌then◌else◌, List, [], ◌∷◌, ◌++◌, length, take, drop, Option, Some, None, Result, Ok, Err, codes, slice_index}
 use Rattle.std.specs.List.{list_all}
-use Rattle.std.specs.Str.{bytes_eq}
+use Rattle.std.specs.Str.{bytes_eq, byte}
 use Rattle.std.specs.Char.{is_ascii_digit}
 use Rattle.bl_num.specs.declared.number.Order.{Order}
 use Rattle.bl_num.specs.declared.number.Order.TheVariants.{Little, Big}
@@ -34,13 +34,13 @@ header_size h = classic_header_size
 
 -- `_` for pointers of 4 bytes, `-` for pointers of 8
 abbrev pub width_mark : Width → ℕ
-width_mark Four = 95
-width_mark Eight = 45
+width_mark Four = byte "_"
+width_mark Eight = byte "-"
 
 -- `v` for the lowest byte first, `V` for the highest first
 abbrev pub order_mark : Order → ℕ
-order_mark Little = 118
-order_mark Big = 86
+order_mark Little = byte "v"
+order_mark Big = byte "V"
 
 -- a byte is a mark of a width
 abbrev pub is_width_mark : ℕ → Bool
@@ -50,9 +50,14 @@ is_width_mark x = x == width_mark Four || x == width_mark Eight
 abbrev pub is_order_mark : ℕ → Bool
 is_order_mark x = x == order_mark Little || x == order_mark Big
 
--- the number that three decimal digits spell; 48 is the digit 0
+-- the number of a decimal digit
+abbrev pub digit_value : ℕ → ℕ
+digit_value d = d - byte "0"
+
+-- the number that three decimal digits spell
 abbrev pub digits_value : List ℕ → ℕ
-digits_value ds = 100 * (slice_index ds 0 - 48) + 10 * (slice_index ds 1 - 48) + (slice_index ds 2 - 48)
+digits_value ds =
+    100 * digit_value (slice_index ds 0) + 10 * digit_value (slice_index ds 1) + digit_value (slice_index ds 2)
 
 -- the first place from 7 on whose byte isn't as it should be: two marks and three digits
 abbrev pub bad_mark : List ℕ → Option ℕ
@@ -212,12 +217,16 @@ head_written h x =
     ++ bytes_of h.order 4 x.index
     ++ bytes_of h.order 4 x.count
 
+-- the digit of a number below ten
+abbrev pub digit_of : ℕ → ℕ
+digit_of n = byte "0" + n
+
 -- a header's bytes: a word, two marks and three digits
 unfoldable pub header_written : Header → List ℕ
 header_written h =
     codes "BLENDER"
     ++ (width_mark h.width ∷ order_mark h.order
-    ∷ (48 + h.version / 100) ∷ (48 + h.version / 10 % 10) ∷ (48 + h.version % 10) ∷ [])
+    ∷ digit_of (h.version / 100) ∷ digit_of (h.version / 10 % 10) ∷ digit_of (h.version % 10) ∷ [])
 
 -- ---- the grammar of a file
 

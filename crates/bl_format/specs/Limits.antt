@@ -1,5 +1,5 @@
 -- How much a file and a run may hold at most. All limits but that on versions are this project's own.
-use Rattle.std.specs.Prelude.{ℕ, ◌^◌}
+use Rattle.std.specs.Prelude.{ℕ}
 
 -- the versions that are read: Blender's 2.50 to 4.99
 abbrev pub first_version : ℕ
