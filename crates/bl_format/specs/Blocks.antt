@@ -247,7 +247,7 @@ pub record IsSpelling (h : Header) (x : Head) (text : List ℕ) : Type 0 where
   pub count : IsCount x.count
   pub payload_len : length payload ≡ x.len
   pub text_is : text ≡ code ++ bytes_of h.order 4 x.len ++ bytes_of h.order (pointer_bytes h.width) x.address
-    ++ bytes_of h.order 4 x.index ++ bytes_of h.order 4 x.count ++ payload
+      ++ bytes_of h.order 4 x.index ++ bytes_of h.order 4 x.count ++ payload
 
 -- a text is the spellings of some blocks, one after another, from a place on
 abbrev pub AreSpellings : Header → ℕ → List Head → List ℕ → Type 0

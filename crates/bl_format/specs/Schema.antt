@@ -244,7 +244,7 @@ pub record IsPayload (order : Order) (c : Catalogue) (p : List ℕ) : Type 0 whe
   pub lengths_aligned : length before_lengths ≡ padding_of (types_part order c)
   pub structs_aligned : length before_structs ≡ padding_of (lengths_part order c)
   pub text : p ≡ names_part order c ++ before_types ++ types_part order c ++ before_lengths
-    ++ lengths_part order c ++ before_structs ++ structs_part order c ++ rest
+      ++ lengths_part order c ++ before_structs ++ structs_part order c ++ rest
 
 -- some payload of fewer than 2^32 bytes reads as the catalogue
 pub record CanBeRead (c : Catalogue) : Type 0 where
