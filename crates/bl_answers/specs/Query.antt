@@ -18,7 +18,7 @@ use Rattle.bl_commands.specs.declared.report.Value.{Value as Shown}
 use Rattle.bl_commands.specs.declared.report.Value.TheVariants.{Chars}
 use Rattle.bl_format.specs.Words.{first_place, numbers_below}
 use Rattle.bl_format.specs.Members.{is_word_byte, extents}
-use Rattle.bl_format.specs.Layout.{NamedLeaf, named_leaves, struct_named, member_numbers, member_size, name_of, inner_struct}
+use Rattle.bl_format.specs.Layout.{NamedLeaf, named_leaves, no_leaf, struct_named, member_numbers, member_size, name_of, inner_struct}
 use Rattle.bl_format.specs.Graph.{Target, Value, Points, Opaque, Fields, Node, Struct, Path, path_of}
 use Rattle.bl_selection.specs.Fate.{is_char}
 use Rattle.bl_linking.specs.References.{Graph, node_in, node_is_id, nodes_where, full_name, path_eq, field, text_from}
@@ -138,9 +138,6 @@ place_in c w s ps = by_way (way_in c w s ps)
 abbrev pub subject : Catalogue → Node → Option (ℕ × Fields)
 subject c (Struct code name group (fs ∷ es)) = Some (unwrap_or (struct_named c name) 0, fs)
 subject c x = None
-
-abbrev pub no_leaf : NamedLeaf
-no_leaf = record { way = []; type_name = []; kind = kinds.Opaque; offset = 0; size = 0; count = 0 }
 
 abbrev pub value_at : Fields → NamedLeaf → ℕ → Value Target
 value_at fs x k = unwrap_or (field fs (path_of x.way k)) (Opaque [])

@@ -249,6 +249,10 @@ pub record NamedLeaf : Type 0 where
   pub size : ℕ
   pub count : ℕ
 
+-- a leaf that holds nothing, where a number is out of range
+abbrev pub no_leaf : NamedLeaf
+no_leaf = record { way = []; type_name = []; kind = kinds.Opaque; offset = 0; size = 0; count = 0 }
+
 -- element e of member k of struct s, on the way to a leaf
 abbrev pub member_step : Catalogue → ℕ → ℕ → ℕ → MemberStep
 member_step c s k e =

@@ -87,9 +87,9 @@ abbrev pub entry_of : List Entry → ℕ × ℕ → ℕ
 entry_of es p = unwrap_or (option_map suc (first_place (is_source p.0 p.1) es)) 0
 
 -- the image of a node that another one stands for, if any does
-abbrev pub image_by : List Entry → Option (ℕ × ℕ) → ℕ
-image_by es None = 0
-image_by es (Some p) = entry_of es p
+abbrev pub image_in : List Entry → Option (ℕ × ℕ) → ℕ
+image_in es None = 0
+image_in es (Some p) = entry_of es p
 
 -- ---- fresh names
 
@@ -242,7 +242,7 @@ appended_draft m =
     let bs = branches m in
     let es = appended_entries m bs in
     let images_a = map (λ n. entry_of es (0, n)) (numbers_below (length m.a.nodes)) in
-    let images_b = map (λ n. image_by es (stand_in m bs n)) (numbers_below (length m.b.nodes)) in
+    let images_b = map (λ n. image_in es (stand_in m bs n)) (numbers_below (length m.b.nodes)) in
     draft_of m.a.file.header (catalogue_in m.a) es (images_a ∷ images_b ∷ [])
 
 -- ---- names and paths

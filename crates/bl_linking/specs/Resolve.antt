@@ -9,7 +9,7 @@ use Rattle.bl_format.specs.Words.{first_place, numbers_below, contains, numbers_
 use Rattle.bl_format.specs.Nodes.{File}
 use Rattle.bl_selection.specs.Selection.{selection_graph, draft_of, no_file}
 use Rattle.bl_linking.specs.References.{Graph, node_in, node_is_id, is_library, is_placeholder, group_nodes, references_of, name_capacity, with_users}
-use Rattle.bl_linking.specs.Append.{Source, source, catalogue_in, name_in, locals, placeholders, local_named, file_in, library_over, plain_nodes, kept_group, of_file, image_by, added, fresh_names, with_names}
+use Rattle.bl_linking.specs.Append.{Source, source, catalogue_in, name_in, locals, placeholders, local_named, file_in, library_over, plain_nodes, kept_group, of_file, image_in, added, fresh_names, with_names}
 
 -- the files that a shelf holds
 abbrev pub Shelf : Type 0
@@ -176,7 +176,7 @@ resolved_entries os =
 unfoldable pub resolved_draft : List Opened → Draft
 resolved_draft os =
     let es = resolved_entries os in
-    let images_of = λ (i : ℕ). map (λ n. image_by es (read_as os i n)) (numbers_below (length (opened_at os i).nodes)) in
+    let images_of = λ (i : ℕ). map (λ n. image_in es (read_as os i n)) (numbers_below (length (opened_at os i).nodes)) in
     draft_of (opened_at os 0).file.header (catalogue_in (opened_at os 0)) es (map images_of (numbers_below (length os)))
 
 -- the graph of the first opened file, and of what its placeholders need

@@ -6,7 +6,7 @@ use Rattle.bl_format.specs.declared.layout.Kind.{Kind}
 use Rattle.bl_format.specs.declared.layout.Kind.TheVariants as kinds
 use Rattle.bl_format.specs.Layout.{NamedLeaf}
 use Rattle.bl_format.specs.Graph.{Value, Number, Pattern, Points, Opaque, Naming, value_by, leaf_bytes, leaf_value}
-use Rattle.bl_selection.specs.Fate.{zero_by, zero_of, converted_value, kept_count, same_type, source_of, from_source, carried_value}
+use Rattle.bl_selection.specs.Fate.{zero_of_kind, zero_of, converted_value, kept_count, same_type, source_leaf, value_from, carried_value}
 
 abbrev pub map_value : {P Q : Type 0} → (P → Q) → Value P → Value Q
 map_value f (Number z) = Number z
@@ -18,7 +18,7 @@ map_cond : {P Q : Type 0} (f : P → Q) (b : Bool) (x y : Value P) → map_value
 map_cond f true x y = refl
 map_cond f false x y = refl
 
-map_zero : {P Q : Type 0} (f : P → Q) (null : P) (k : Kind) (n : ℕ) → map_value f (zero_by null k n) ≡ zero_by (f null) k n
+map_zero : {P Q : Type 0} (f : P → Q) (null : P) (k : Kind) (n : ℕ) → map_value f (zero_of_kind null k n) ≡ zero_of_kind (f null) k n
 map_zero f null (kinds.Whole w) n = refl
 map_zero f null (kinds.Bits b) n = refl
 map_zero f null (kinds.Pointer depth t) n = refl
@@ -33,7 +33,7 @@ map_converted f alike other kinds.Opaque kinds.Opaque names order bytes = map_co
 map_converted f alike other _ _ names order bytes = refl
 
 map_from : {P Q : Type 0} (f : P → Q) (null : P) (names : Naming P) (order : Order) (bytes : List ℕ) (o : Option NamedLeaf) (y : NamedLeaf) (k : ℕ)
-    → map_value f (from_source null names order bytes o y k) ≡ from_source (f null) (λ a. f (names a)) order bytes o y k
+    → map_value f (value_from null names order bytes o y k) ≡ value_from (f null) (λ a. f (names a)) order bytes o y k
 unfolding leaf_value
 map_from f null names order bytes None y k = map_zero f null y.kind y.size
 map_from f null names order bytes (Some x) y k =
@@ -42,4 +42,4 @@ map_from f null names order bytes (Some x) y k =
 pub map_carried : {P Q : Type 0} (f : P → Q) (null : P) (names : Naming P) (order : Order) (xs : List NamedLeaf) (bytes : List ℕ) (y : NamedLeaf) (k : ℕ)
     → map_value f (carried_value null names order xs bytes y k) ≡ carried_value (f null) (λ a. f (names a)) order xs bytes y k
 unfolding carried_value
-map_carried f null names order xs bytes y k = map_from f null names order bytes (source_of xs y) y k
+map_carried f null names order xs bytes y k = map_from f null names order bytes (source_leaf xs y) y k
