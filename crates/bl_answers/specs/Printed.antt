@@ -16,11 +16,11 @@ use Rattle.bl_commands.specs.declared.report.Row.{Row}
 use Rattle.bl_commands.specs.declared.report.Value.{Value as Shown}
 use Rattle.bl_commands.specs.declared.report.Value.TheVariants.{Whole, Bits, Node as ShownNode, Bytes, Chars}
 use Rattle.bl_format.specs.Words.{part, numbers_below}
-use Rattle.bl_format.specs.Layout.{MemberStep, NamedLeaf, named_leaves, struct_numbers, member_numbers, struct_name, struct_named, struct_length, name_entry, member_entry, type_entry, name_of, member_size, member_offset}
+use Rattle.bl_format.specs.Layout.{MemberStep, NamedLeaf, named_leaves, struct_numbers, member_numbers, struct_name, struct_named, struct_length, name_entry, member_entry, type_entry, name_of, member_size, member_offset, struct_number}
 use Rattle.std.specs.List.{enumerate_from}
 use Rattle.bl_format.specs.Graph.{Target, Value, Number, Pattern, Points, Opaque, Fields, Contents, IsBytes, IsNumbers, IsPointers, IsPair, Node, Struct, Raw, path_of}
 use Rattle.bl_selection.specs.Fate.{fate_of, is_char}
-use Rattle.bl_linking.specs.References.{Graph, node_in, node_code, node_struct, node_is_id, nodes_where, field, full_name, text_from, users_of}
+use Rattle.bl_linking.specs.References.{Graph, node_in, node_code, node_struct, node_is_id, nodes_where, value_at_path, full_name, text_from, users_of}
 use Rattle.bl_commands.specs.Texts.{Text, shown_bytes, shown_code, quoted_bytes, line, Piece, row_text}
 
 -- ---- schema
@@ -29,14 +29,14 @@ abbrev pub order_text : Order → Text
 order_text Little = codes "little"
 order_text Big = codes "big"
 
-abbrev pub member_name : Catalogue → ℕ → ℕ → List ℕ
-member_name c s k = name_entry c (member_entry c s k).name_number
+abbrev pub whole_member_name : Catalogue → ℕ → ℕ → List ℕ
+whole_member_name c s k = name_entry c (member_entry c s k).name_number
 
 abbrev pub member_line : Catalogue → Width → ℕ → ℕ → Text
 member_line c w s k =
     let type_name = (type_entry c (member_entry c s k).type_number).name in
     let numbers = decimal (member_offset c w s k) ∷ decimal (member_size c w s k) ∷ [] in
-    codes "  " ++ line (numbers ++ shown_bytes type_name ∷ shown_bytes (member_name c s k) ∷ [])
+    codes "  " ++ line (numbers ++ shown_bytes type_name ∷ shown_bytes (whole_member_name c s k) ∷ [])
 
 abbrev pub struct_lines : Catalogue → Width → ℕ → Text
 struct_lines c w s =
@@ -65,7 +65,7 @@ abbrev pub fate_lines : Catalogue → Width → Catalogue → Width → ℕ → 
 fate_lines from v to w t = by_source (struct_named from (struct_name to t))
   where
     fate_line : ℕ → ℕ → Text
-    fate_line s k = codes "  " ++ line (shown_bytes (member_name to t k) ∷ fate_text (fate_of from v s to w t k) ∷ [])
+    fate_line s k = codes "  " ++ line (shown_bytes (whole_member_name to t k) ∷ fate_text (fate_of from v s to w t k) ∷ [])
 
     by_source : Option ℕ → Text
     by_source None = line (codes "struct" ∷ shown_bytes (struct_name to t) ∷ codes "new" ∷ [])
@@ -94,15 +94,15 @@ index_text None = []
 index_text (Some k) = codes "[" ++ decimal k ++ codes "]"
 
 -- an element, where the member has a count above 1
-abbrev pub element_told : Catalogue → MemberStep → ℕ → Option ℕ
-element_told c h k = if nat_lt 1 (name_of c h.s h.member).count then Some k else None
+abbrev pub told_element : Catalogue → MemberStep → ℕ → Option ℕ
+told_element c h k = if nat_lt 1 (name_of c h.s h.member).count then Some k else None
 
 -- identifiers joined by `.`; the last one with its own index
 abbrev pub way_text : Catalogue → List MemberStep → (MemberStep → Option ℕ) → Text
 way_text c [] last = []
 way_text c (h ∷ []) last = h.identifier ++ index_text (last h)
 way_text c (h ∷ g ∷ hs) last =
-    h.identifier ++ index_text (element_told c h h.element) ++ codes "." ++ way_text c (g ∷ hs) last
+    h.identifier ++ index_text (told_element c h h.element) ++ codes "." ++ way_text c (g ∷ hs) last
 
 abbrev pub shown_value : Kind → Value Target → Shown
 shown_value kind (Number z) = Whole z
@@ -111,19 +111,19 @@ shown_value kind (Pattern v) = Bits 0 v
 shown_value kind (Points to) = ShownNode to
 shown_value kind (Opaque bytes) = Bytes bytes
 
-abbrev pub zero_else : Option (Value Target) → Value Target
-zero_else v = unwrap_or v (Opaque [])
+abbrev pub value_or_nothing : Option (Value Target) → Value Target
+value_or_nothing v = unwrap_or v (Opaque [])
 
 -- paths and values of a leaf: one with the text of a `char` array, else one for each element
 abbrev pub leaf_rows : Catalogue → Fields → NamedLeaf → List (Text × Shown)
 leaf_rows c fs x =
-    let values = map (λ k. zero_else (field fs (path_of x.way k))) (numbers_below x.count) in
+    let values = map (λ k. value_or_nothing (value_at_path fs (path_of x.way k))) (numbers_below x.count) in
     if is_char x && nat_lt 1 x.count
     then (way_text c x.way (λ h. None), Chars (text_from values)) ∷ []
     else map row_at (enumerate_from 0 values)
   where
     row_at : ℕ × Value Target → Text × Shown
-    row_at p = (way_text c x.way (λ h. element_told c h p.0), shown_value x.kind p.1)
+    row_at p = (way_text c x.way (λ h. told_element c h p.0), shown_value x.kind p.1)
 
 -- bytes that stand at a place, in pieces of 32
 abbrev pub byte_rows : ℕ → List ℕ → List (Text × Shown)
@@ -156,7 +156,7 @@ row_of n code name e p = record {
 -- the rows of node n
 unfoldable pub node_rows : Catalogue → Width → ℕ → Node → List Row
 node_rows c w n (Struct code name group es) =
-    let xs = named_leaves c w (unwrap_or (struct_named c name) 0) in
+    let xs = named_leaves c w (struct_number c name) in
     let element_rows = λ (p : ℕ × Fields). map (row_of n code name p.0) (flat_map (leaf_rows c p.1) xs) in
     flat_map element_rows (enumerate_from 0 es)
 node_rows c w n (Raw code group count kind contents) =

@@ -18,10 +18,10 @@ use Rattle.bl_commands.specs.declared.report.Value.{Value as Shown}
 use Rattle.bl_commands.specs.declared.report.Value.TheVariants.{Chars}
 use Rattle.bl_format.specs.Words.{first_place, numbers_below}
 use Rattle.bl_format.specs.Members.{is_word_byte, extents}
-use Rattle.bl_format.specs.Layout.{NamedLeaf, named_leaves, no_leaf, struct_named, member_numbers, member_size, name_of, inner_struct}
+use Rattle.bl_format.specs.Layout.{NamedLeaf, named_leaves, no_leaf, struct_named, member_numbers, member_size, name_of, inner_struct, struct_number}
 use Rattle.bl_format.specs.Graph.{Target, Value, Points, Opaque, Fields, Node, Struct, Path, path_of}
 use Rattle.bl_selection.specs.Fate.{is_char}
-use Rattle.bl_linking.specs.References.{Graph, node_in, node_is_id, nodes_where, full_name, path_eq, field, text_from}
+use Rattle.bl_linking.specs.References.{Graph, node_in, node_is_id, nodes_where, full_name, path_eq, value_at_path, text_from}
 use Rattle.bl_commands.specs.Commands.{is_step}
 use Rattle.bl_commands.specs.declared.ending.Ending.{Ending}
 use Rattle.bl_commands.specs.declared.ending.Ending.TheVariants.{NoCommand, Absent, Device, Missing}
@@ -78,9 +78,9 @@ index_fault c s k p = by_index p.index
         Some (OutOfRange p.at)
 
 -- a step before a way
-abbrev pub before_way : List ℕ × ℕ → Result Path PathFault → Result Path PathFault
-before_way h (Ok way) = Ok (h ∷ way)
-before_way h (Err fault) = Err fault
+abbrev pub way_with_step : List ℕ × ℕ → Result Path PathFault → Result Path PathFault
+way_with_step h (Ok way) = Ok (h ∷ way)
+way_with_step h (Err fault) = Err fault
 
 -- the way of a path in struct s; a struct array without an index means element 0
 unfoldable pub way_in : Catalogue → Width → ℕ → List Part → Result Path PathFault
@@ -100,7 +100,7 @@ way_in c w s (p ∷ ps) = at_member (member_at_path c w s p.identifier) (λ t. w
 
     by_kind : Option ℕ → (ℕ → Result Path PathFault) → Result Path PathFault
     by_kind None go = if last ps then Ok (step ∷ []) else Err (NoMember (next_at ps))
-    by_kind (Some t) go = if last ps then Err (NotLeaf p.at) else before_way step (go t)
+    by_kind (Some t) go = if last ps then Err (NotLeaf p.at) else way_with_step step (go t)
 
     by_index : Option PathFault → ℕ → (ℕ → Result Path PathFault) → Result Path PathFault
     by_index (Some fault) k go = Err fault
@@ -116,10 +116,10 @@ last_index (p ∷ []) = p.index
 last_index (p ∷ q ∷ ps) = last_index (q ∷ ps)
 
 -- a way to element 0 of its last member
-abbrev pub to_first : Path → Path
-to_first [] = []
-to_first (h ∷ []) = (h.0, 0) ∷ []
-to_first (h ∷ g ∷ hs) = h ∷ to_first (g ∷ hs)
+abbrev pub way_to_first : Path → Path
+way_to_first [] = []
+way_to_first (h ∷ []) = (h.0, 0) ∷ []
+way_to_first (h ∷ g ∷ hs) = h ∷ way_to_first (g ∷ hs)
 
 -- the leaf, and the element that the last step gives
 unfoldable pub place_in : Catalogue → Width → ℕ → List Part → Result Place PathFault
@@ -128,7 +128,7 @@ place_in c w s ps = by_way (way_in c w s ps)
     by_way : Result Path PathFault → Result Place PathFault
     by_way (Err fault) = Err fault
     by_way (Ok way) = Ok (record {
-      leaf = unwrap_or (first_place (λ (x : NamedLeaf). path_eq (path_of x.way 0) (to_first way)) (named_leaves c w s)) 0;
+      leaf = unwrap_or (first_place (λ (x : NamedLeaf). path_eq (path_of x.way 0) (way_to_first way)) (named_leaves c w s)) 0;
       element = last_index ps;
     })
 
@@ -136,11 +136,11 @@ place_in c w s ps = by_way (way_in c w s ps)
 
 -- the struct's number and the fields of element 0 of a node, unless it is raw or has no elements
 abbrev pub subject : Catalogue → Node → Option (ℕ × Fields)
-subject c (Struct code name group (fs ∷ es)) = Some (unwrap_or (struct_named c name) 0, fs)
+subject c (Struct code name group (fs ∷ es)) = Some (struct_number c name, fs)
 subject c x = None
 
 abbrev pub value_at : Fields → NamedLeaf → ℕ → Value Target
-value_at fs x k = unwrap_or (field fs (path_of x.way k)) (Opaque [])
+value_at fs x k = unwrap_or (value_at_path fs (path_of x.way k)) (Opaque [])
 
 -- the values at a place: of one element, of all, or the text of a `char` array
 abbrev pub answer_at : Fields → NamedLeaf → Option ℕ → List Shown
@@ -150,10 +150,10 @@ answer_at fs x None =
     if is_char x && nat_lt 1 x.count then Chars (text_from values) ∷ [] else map (shown_value x.kind) values
 
 -- what a pointer names, or the fault of following it from a place
-abbrev pub pointer_followed : ℕ → Kind → Value Target → Result ℕ QueryFault
-pointer_followed arrow (kinds.Pointer depth t) (Points (Some m)) = Ok m
-pointer_followed arrow (kinds.Pointer depth t) v = Err (NullPointer arrow)
-pointer_followed arrow kind v = Err (NotPointer arrow)
+abbrev pub followed_node : ℕ → Kind → Value Target → Result ℕ QueryFault
+followed_node arrow (kinds.Pointer depth t) (Points (Some m)) = Ok m
+followed_node arrow (kinds.Pointer depth t) v = Err (NullPointer arrow)
+followed_node arrow kind v = Err (NotPointer arrow)
 
 -- the answer to the rest of a query, from the fields of an element of struct s
 unfoldable pub answer_from : Catalogue → Width → Graph → ℕ → Fields → List (ℕ × List ℕ) → Result (List Shown) QueryFault
@@ -181,7 +181,7 @@ answer_from c w g s fs ((at, text) ∷ rest) = by_parts (parts_of at text) (λ t
     at_leaf : NamedLeaf → Option ℕ → Rest → Result (List Shown) QueryFault
     at_leaf x element go =
         if is_last rest then Ok (answer_at fs x element) else
-        by_target (pointer_followed arrow x.kind (value_at fs x (unwrap_or element 0))) go
+        by_target (followed_node arrow x.kind (value_at fs x (unwrap_or element 0))) go
 
     by_place : Result Place PathFault → Rest → Result (List Shown) QueryFault
     by_place (Err fault) go = Err (BadPath fault)

@@ -98,12 +98,12 @@ name_ok p at v e = go (nat_lt (position_or_len (λ b. b == 0) (drop at p)) (leng
 
 many_all : {A : Type 0} (one : ℕ → Reading A) (P : A → Type 0) → ((at : ℕ) (v : A × ℕ) → one at ≡ Ok v → P v.0) → (n at : ℕ) (v : List A × ℕ) → many_at one n at ≡ Ok v → All P v.0 × (length v.0 ≡ n)
 unfolding many_at
-many_all {A} one P holds_struct zero at v e = subst (λ (x : List A × ℕ). All P x.0 × (length x.0 ≡ 0)) (ok_same ([], at) v e) ((λ k d lt. absurd (omega (arith, lt))), refl)
-many_all {A} one P holds_struct (suc n) at v e =
+many_all {A} one P holds zero at v e = subst (λ (x : List A × ℕ). All P x.0 × (length x.0 ≡ 0)) (ok_same ([], at) v e) ((λ k d lt. absurd (omega (arith, lt))), refl)
+many_all {A} one P holds (suc n) at v e =
     let first = bind_ok (one at) _ v e in
     let others = bind_ok (many_at one n first.0.1) _ v first.2 in
-    let ih = many_all one P holds_struct n first.0.1 others.0 others.1 in
-    subst (λ (x : List A × ℕ). All P x.0 × (length x.0 ≡ suc n)) (ok_same (first.0.0 ∷ others.0.0, others.0.1) v others.2) (All-cons P first.0.0 others.0.0 (holds_struct at first.0 first.1) ih.0, omega (arith, ih.1))
+    let ih = many_all one P holds n first.0.1 others.0 others.1 in
+    subst (λ (x : List A × ℕ). All P x.0 × (length x.0 ≡ suc n)) (ok_same (first.0.0 ∷ others.0.0, others.0.1) v others.2) (All-cons P first.0.0 others.0.0 (holds at first.0 first.1) ih.0, omega (arith, ih.1))
 
 or_false : (a b : Bool) → (a || b) ≡ false → (a ≡ false) × (b ≡ false)
 or_false true b e = absurd (let e' : true ≡ false = e in cc)

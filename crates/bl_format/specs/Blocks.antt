@@ -181,7 +181,8 @@ blocks_of h b = blocks_within (most_blocks + 1) h b (header_size h)
 -- these blocks stand one after another, from one place up to another
 abbrev pub AreBlocks : Header → List ℕ → ℕ → List Head → ℕ → Type 0
 AreBlocks h b at [] end = at ≡ end
-AreBlocks h b at (x ∷ xs) end = (step_at h b at ≡ Ok (Block x)) × AreBlocks h b (at + head_size h + x.len) xs end
+AreBlocks h b at (x ∷ xs) end =
+    (step_at h b at ≡ Ok (Block x)) × AreBlocks h b (at + head_size h + x.len) xs end
 
 -- the file reads as this header and these blocks, behind which it ends
 pub record Reads (b : List ℕ) (h : Header) (blocks : List Head) : Type 0 where

@@ -1,6 +1,6 @@
--- The graph of a file: its nodes with the values that they hold and the nodes that their pointers name, whatever
--- the addresses, lengths and tails in the bytes. Two files with equal graphs say the same. This project's own,
--- over the structs of Blender's SDNA.
+-- The graph of a file: its nodes with the values that they hold and the nodes that their pointers name,
+-- whatever the addresses, lengths and tails in the bytes. Two files with equal graphs say the same. This
+-- project's own, over the structs of Blender's SDNA.
 use Rattle.std.specs.Prelude.{ℕ, ◌+◌, ◌*◌, ◌/◌, ◌==◌, if◌then◌else◌, List, [], ◌∷◌, length, drop, map, flat_map, Option, Some, None, ℤ}
 use Rattle.bl_num.specs.declared.number.Order.{Order}
 use Rattle.bl_num.specs.declared.number.Width.{Width}
@@ -86,8 +86,8 @@ pub record Cell : Type 0 where
   pub at : ℕ
   pub value : Value Target
 
--- a cell for each leaf and each of its elements, with the value that a function gives by the leaf's number, the
--- leaf and the element
+-- a cell for each leaf and each of its elements, with the value that a function gives by the leaf's number,
+-- the leaf and the element
 unfoldable pub cells : (ℕ → NamedLeaf → ℕ → Value Target) → List NamedLeaf → List Cell
 cells value xs = flat_map (λ p. map (cell_of p.0 p.1) (numbers_below p.1.count)) (enumerate_from 0 xs)
   where
@@ -184,8 +184,9 @@ unfoldable pub node_of : File → List View → ℕ → Head → Node
 node_of f views k x =
     let g = group_of (file_codes f) k in
     let kind = raw_kind views x.code x.len k in
+    let bytes = payload f.header f.bytes x in
     if x.index == 0
-    then Raw x.code g x.count kind (contents_by kind (file_names f g) (form_of f.header) (payload f.header f.bytes x))
+    then Raw x.code g x.count kind (contents_by kind (file_names f g) (form_of f.header) bytes)
     else Struct x.code (struct_name f.catalogue x.index) g (map fields (node_cells f k x))
 
 -- the nodes of a file, in order

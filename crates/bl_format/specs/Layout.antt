@@ -1,6 +1,7 @@
--- Where the members of a catalogue's structs stand, which faults a layout may have, and the leaves of a struct:
--- its members in order, those that are structs by value opened up. Sizes and offsets are those of Blender's SDNA
--- (`DNA_genfile`). The checks, the list of basic types with their signs and the limits are this project's own.
+-- Where the members of a catalogue's structs stand, which faults a layout may have, and the leaves of a
+-- struct: its members in order, those that are structs by value opened up. Sizes and offsets are those of
+-- Blender's SDNA (`DNA_genfile`). The checks, the list of basic types with their signs and the limits are
+-- this project's own.
 use Rattle.std.specs.Prelude.{◌≡◌, ℕ, zero, suc, ◌+◌, ◌*◌, max, Bool, true, false, not, ◌&&◌, ◌||◌, ◌==◌, nat_lt, if◌then◌else◌, List, [], ◌∷◌, length, map, flat_map, filter_map, fold, sum, get_or, Option, Some, None, option_map, unwrap_or, is_some, codes}
 use Rattle.std.specs.List.{find}
 use Rattle.std.specs.Option.{option_or}
@@ -76,6 +77,10 @@ struct_of_type c t = first_place (λ s. s.type_number == t) c.structs
 unfoldable pub struct_named : Catalogue → List ℕ → Option ℕ
 struct_named c name = first_place (λ s. bytes_eq (type_entry c s.type_number).name name) c.structs
 
+-- the number of the struct of a name, and 0 where there is none
+abbrev pub struct_number : Catalogue → List ℕ → ℕ
+struct_number c name = unwrap_or (struct_named c name) 0
+
 -- what the name of member k of struct s says, where it is bad too
 unfoldable pub name_of : Catalogue → ℕ → ℕ → MemberName
 name_of c s k =
@@ -84,8 +89,8 @@ name_of c s k =
 
 -- ---- kinds of types
 
--- a basic type: a whole number with a sign or without and the lengths in bytes that it may have, a float of so
--- many bytes, or nothing
+-- a basic type: a whole number with a sign or without and the lengths in bytes that it may have, a float of
+-- so many bytes, or nothing
 pub data Basic : Type 0 where
   IsWhole : (signed : Bool) → (lengths : List ℕ) → Basic
   IsFloat : (bytes : ℕ) → Basic
@@ -211,8 +216,8 @@ has_bad_length c s k =
 abbrev pub overruns : Catalogue → Width → ℕ → ℕ → Bool
 overruns c w s k = nat_lt (struct_length c s) (member_offset c w s (suc k))
 
--- the first check that member k of struct s fails: its name, its identifier, its basic type, a struct in itself,
--- the struct's length
+-- the first check that member k of struct s fails: its name, its identifier, its basic type, a struct in
+-- itself, the struct's length
 unfoldable pub member_fault : Catalogue → Width → ℕ → ℕ → Option LayoutFault
 member_fault c w s k =
     if has_bad_name c s k then Some (BadName s k) else
@@ -239,8 +244,9 @@ pub record MemberStep : Type 0 where
   pub name_number : ℕ
   pub element : ℕ
 
--- a leaf with the names on the way to it: the members on that way, outer ones first, the name of the leaf's type,
--- what it holds, where its first element stands in the struct, the bytes of an element, and how many there are
+-- a leaf with the names on the way to it: the members on that way, outer ones first, the name of the leaf's
+-- type, what it holds, where its first element stands in the struct, the bytes of an element, and how many
+-- there are
 pub record NamedLeaf : Type 0 where
   pub way : List MemberStep
   pub type_name : List ℕ
@@ -283,7 +289,8 @@ kind_of c s k =
     then kinds.Pointer (name_of c s k).depth t
     else kind_of_content (content_of c t) (type_entry c t).length
 
--- a leaf of an inner struct as a leaf of the outer one: behind one member more, and so many bytes further on
+-- a leaf of an inner struct as a leaf of the outer one: behind one member more, and so many bytes further
+-- on
 abbrev pub leaf_behind : MemberStep → ℕ → NamedLeaf → NamedLeaf
 leaf_behind step by x = record x { way = step ∷ x.way; offset = by + x.offset }
 
@@ -391,8 +398,8 @@ leaves_fault c w = find_map fault (struct_numbers c)
         let leaves = leaves_below c w (suc s) in
         if nat_lt most_leaves leaves then Some (TooManyLeaves leaves) else None
 
--- the first fault of a layout: of a member, else the first struct that passes the limit on nesting, else the
--- first at which the leaves pass theirs
+-- the first fault of a layout: of a member, else the first struct that passes the limit on nesting, else
+-- the first at which the leaves pass theirs
 unfoldable pub layout_fault : Catalogue → Width → Option LayoutFault
 layout_fault c w = option_or (first_fault c w) (option_or (depth_fault c) (leaves_fault c w))
 

@@ -1,6 +1,7 @@
--- Accepted files and their nodes: groups, IDs, what an address names, and what a raw block holds. Blocks, groups
--- and IDs are Blender's (`readfile`, `writefile`, the struct `ID`). This project's own: which checks accept a file,
--- that index 0 alone marks raw data, in which scope an address is looked up, and the kinds of raw blocks.
+-- Accepted files and their nodes: groups, IDs, what an address names, and what a raw block holds. Blocks,
+-- groups and IDs are Blender's (`readfile`, `writefile`, the struct `ID`). This project's own: which checks
+-- accept a file, that index 0 alone marks raw data, in which scope an address is looked up, and the kinds
+-- of raw blocks.
 use Rattle.std.specs.Prelude.{◌≡◌, ℕ, zero, suc, ◌+◌, ◌*◌, Bool, true, false, not, ◌&&◌, ◌||◌, ◌==◌, nat_le, nat_lt, if◌then◌else◌, List, [], ◌∷◌, length, take, map, filter, count_by, Option, Some, None, Ok, Err, codes}
 use Rattle.std.specs.List.{list_all, enumerate_from}
 use Rattle.std.specs.Option.{option_or}
@@ -22,7 +23,8 @@ use Rattle.bl_format.specs.Layout.{Basic, IsWhole, IsFloat, IsVoid, basic_named,
 
 -- ---- files
 
--- an accepted file: its header, its catalogue, its nodes, which are all blocks but the catalogue's, and its bytes
+-- an accepted file: its header, its catalogue, its nodes, which are all blocks but the catalogue's, and its
+-- bytes
 pub record File : Type 0 where
   pub header : Header
   pub catalogue : Catalogue
@@ -45,7 +47,8 @@ catalogues_in blocks = filter is_catalogue blocks
 abbrev pub nodes_in : List Head → List Head
 nodes_in blocks = filter (λ x. not (is_catalogue x)) blocks
 
--- what is wrong with a node, with the place of its head: no struct has its number, or its payload is too short
+-- what is wrong with a node, with the place of its head: no struct has its number, or its payload is too
+-- short
 pub data NodeFault : Type 0 where
   BadStruct : (at : ℕ) → NodeFault
   ShortBlock : (at : ℕ) → NodeFault
@@ -107,7 +110,8 @@ pub record ReadsCatalogueAs (b : List ℕ) (Fact : Header → List Head → Cata
 -- one block holds a catalogue, and it has this fault
 abbrev pub HasCatalogueFault : List ℕ → SdnaFault → Header → List Head → Type 0
 HasCatalogueFault b fault h blocks =
-    (place : Head) × (catalogues_in blocks ≡ place ∷ []) × (catalogue_of h.order (payload h b place) ≡ Err fault)
+    (place : Head) × (catalogues_in blocks ≡ place ∷ [])
+    × (catalogue_of h.order (payload h b place) ≡ Err fault)
 
 -- the layout has no fault, and a node has this one first
 abbrev pub HasNodeFault : NodeFault → Header → List Head → Catalogue → Type 0
@@ -130,15 +134,16 @@ IsRefused b (InNode fault) = ReadsCatalogueAs b (HasNodeFault fault)
 abbrev pub is_data : List ℕ → Bool
 is_data code = bytes_eq code (codes "DATA")
 
--- the number of node k's group, by the codes of all nodes: how many nodes up to it head a group. Group 0 has no
--- head
+-- the number of node k's group, by the codes of all nodes: how many nodes up to it head a group. Group 0
+-- has no head
 abbrev pub group_of : List (List ℕ) → ℕ → ℕ
 group_of codes k = count_by (λ code. not (is_data code)) (take (suc k) codes)
 
 -- member k of struct s is `id`, by value, one struct `ID`
 abbrev pub is_id_member : Catalogue → ℕ → ℕ → Bool
 is_id_member c s k =
-    bytes_eq (name_of c s k).identifier (codes "id") && (name_of c s k).count == 1 && is_struct_id (inner_struct c s k)
+    let name = name_of c s k in
+    bytes_eq name.identifier (codes "id") && name.count == 1 && is_struct_id (inner_struct c s k)
   where
     is_struct_id : Option ℕ → Bool
     is_struct_id None = false
@@ -172,8 +177,8 @@ mark f k x = record {
 unfoldable pub marks : File → List Mark
 marks f = map (λ p. mark f p.0 p.1) (enumerate_from 0 f.nodes)
 
--- the node that an address names in a group, or null: 0 is null, else it is the last node of the group with that
--- address, else the last ID of the file with it
+-- the node that an address names in a group, or null: 0 is null, else it is the last node of the group with
+-- that address, else the last ID of the file with it
 unfoldable pub target_of : List Mark → ℕ → ℕ → Option ℕ
 target_of nodes group address =
     let in_group = last_place (λ n. n.group == group && n.address == address) nodes in
@@ -201,14 +206,16 @@ pointed_length c t (Some (IsWhole signed ns)) =
 pointed_length c t (Some (IsFloat n)) = Some n
 pointed_length c t (Some IsVoid) = Some 0
 
--- what a pointer of one star says, by the bytes of the basic type behind it; a pointer to `void` says nothing
+-- what a pointer of one star says, by the bytes of the basic type behind it; a pointer to `void` says
+-- nothing
 abbrev pub view_of_basic : Option ℕ → Option RawKind
 view_of_basic None = Some Bytes
 view_of_basic (Some zero) = None
 view_of_basic (Some (suc zero)) = Some Bytes
 view_of_basic (Some (suc (suc n))) = Some (Numbers (suc (suc n)))
 
--- what a pointer says of the raw node that it names, by its stars and the bytes of the basic type behind them
+-- what a pointer says of the raw node that it names, by its stars and the bytes of the basic type behind
+-- them
 unfoldable pub view_of : ℕ → Option ℕ → Option RawKind
 view_of (suc zero) basic = view_of_basic basic
 view_of (suc (suc zero)) basic = Some Pointers

@@ -1,5 +1,5 @@
--- A catalogue at another width of pointers: the same names, types and structs, with the lengths that the structs
--- have then. This project's own.
+-- A catalogue at another width of pointers: the same names, types and structs, with the lengths that the
+-- structs have then. This project's own.
 use Rattle.std.specs.Prelude.{ℕ, zero, suc, ◌+◌, ◌-◌, ◌*◌, nat_lt, if◌then◌else◌, length, map, sum, Option, Some, None}
 use Rattle.bl_num.specs.declared.number.Width.{Width}
 use Rattle.bl_num.specs.Numbers.{pointer_bytes}

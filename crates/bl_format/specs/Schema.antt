@@ -1,7 +1,7 @@
--- The catalogue: how it is read from the payload of its block from left to right, with the first fault; how it
--- is written; and the grammar of payloads, which says the same without places. The form is that of Blender's
--- SDNA (`DNA_genfile`). This project's own: which fault comes first, that numbers of 16 bits have no sign, and
--- that any bytes may stand as padding and behind the last struct.
+-- The catalogue: how it is read from the payload of its block from left to right, with the first fault; how
+-- it is written; and the grammar of payloads, which says the same without places. The form is that of
+-- Blender's SDNA (`DNA_genfile`). This project's own: which fault comes first, that numbers of 16 bits have
+-- no sign, and that any bytes may stand as padding and behind the last struct.
 use Rattle.std.specs.Prelude.{◌≡◌, ◌≢◌, All, ℕ, zero, suc, ◌+◌, ◌-◌, ◌^◌, ◌<◌, Bool, true, false, not, ◌==◌, nat_lt, if◌then◌else◌, List, [], ◌∷◌, ◌++◌, length, drop, map, flat_map, Option, Some, None, Result, Ok, Err, codes}
 use Rattle.std.specs.List.{list_any, position, zip, AllPairs}
 use Rattle.std.specs.Str.{bytes_eq}
@@ -50,7 +50,8 @@ tag_at tag p at =
 
 -- a number of n bytes
 unfoldable pub count_at : Order → ℕ → List ℕ → ℕ → Reading ℕ
-count_at order n p at = if nat_lt (length p) (at + n) then Err (CutShort at) else Ok (number_at order p at n, at + n)
+count_at order n p at =
+    if nat_lt (length p) (at + n) then Err (CutShort at) else Ok (number_at order p at n, at + n)
 
 -- a number of two bytes that is below n, as those of types and names are
 unfoldable pub index_at : Order → ℕ → List ℕ → ℕ → Reading ℕ

@@ -11,7 +11,7 @@ use Rattle.bl_selection.specs.Written.{written_form}
 use Rattle.bl_linking.specs.References.{with_users}
 use Rattle.bl_linking.specs.Append.{appended_graph, source}
 use Rattle.bl_linking.specs.Link.{linked_graph}
-use Rattle.bl_linking.specs.Resolve.{Opened, Shelf, with_next, next_path, resolved_from}
+use Rattle.bl_linking.specs.Resolve.{OpenFile, Shelf, with_next_file, next_path, resolved_from}
 use Rattle.bl_rows.proofs.Graphs.{layout, graphs, writing, links}
 use Rattle.bl_rows.proofs.Merged.{selecting, merging, resolving}
 use Rattle.bl_rows.proofs.Small.{s4, t4, raws, raws_big_bytes, counted, recounted_bytes, into, lib, appended_bytes, appended_other_bytes, linked_there_bytes, linked_other_bytes, short_into, short_lib, short_bytes, law_a, law_b, law_n, law_n_bytes, law_bytes, ring_a, ring_b, ring_c, ring_bytes}
@@ -61,7 +61,7 @@ law_linked : written_form h4 s4 (linked_graph law_a (codes "b") (codes "OBa" ∷
 unfolding graphs links selecting merging writing
 law_linked = refl
 
-abbrev law_opened : List Opened
+abbrev law_opened : List OpenFile
 law_opened = record { name = codes "n"; at = source law_n } ∷ record { name = codes "b"; at = source law_b } ∷ []
 
 law_resolved : written_form h4 s4 (resolved_from law_opened) ≡ law_bytes
@@ -76,20 +76,20 @@ law_all_open = refl
 shelf : Shelf
 shelf name = if bytes_eq name (codes "a") then Some ring_a else if bytes_eq name (codes "b") then Some ring_b else if bytes_eq name (codes "c") then Some ring_c else None
 
-abbrev ring_one : List Opened
+abbrev ring_one : List OpenFile
 ring_one = record { name = codes "a"; at = source ring_a } ∷ []
 
-abbrev ring_two : List Opened
+abbrev ring_two : List OpenFile
 ring_two = record { name = codes "a"; at = source ring_a } ∷ record { name = codes "c"; at = source ring_c } ∷ []
 
-abbrev ring_three : List Opened
+abbrev ring_three : List OpenFile
 ring_three = record { name = codes "a"; at = source ring_a } ∷ record { name = codes "c"; at = source ring_c } ∷ record { name = codes "b"; at = source ring_b } ∷ []
 
-ring_opens_c : with_next shelf ring_one ≡ ring_two
+ring_opens_c : with_next_file shelf ring_one ≡ ring_two
 unfolding graphs links selecting merging resolving shelf
 ring_opens_c = refl
 
-ring_opens_b : with_next shelf ring_two ≡ ring_three
+ring_opens_b : with_next_file shelf ring_two ≡ ring_three
 unfolding graphs links selecting merging resolving shelf
 ring_opens_b = refl
 

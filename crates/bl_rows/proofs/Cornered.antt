@@ -10,7 +10,7 @@ use Rattle.bl_selection.specs.Written.{written_form}
 use Rattle.bl_linking.specs.References.{with_users, path_array}
 use Rattle.bl_linking.specs.Append.{appended_graph, source}
 use Rattle.bl_linking.specs.Link.{linked_graph}
-use Rattle.bl_linking.specs.Resolve.{Opened, next_path, resolved_from}
+use Rattle.bl_linking.specs.Resolve.{OpenFile, next_path, resolved_from}
 use Rattle.bl_answers.specs.Printed.{list_text}
 use Rattle.bl_rows.proofs.Graphs.{layout, graphs, writing, links}
 use Rattle.bl_rows.proofs.Merged.{selecting, merging, resolving}
@@ -52,7 +52,7 @@ unfolding graphs links selecting merging writing
 widens = refl
 
 -- a library of the path IN is IN itself
-abbrev alone : List Opened
+abbrev alone : List OpenFile
 alone = record { name = codes "a"; at = source front } ∷ []
 
 alone_is_all : next_path alone ≡ None

@@ -4,9 +4,9 @@ use Rattle.std.specs.Prelude.{map, codes}
 use Rattle.bl_selection.specs.declared.draft.Draft.{Draft}
 use Rattle.bl_selection.specs.declared.draft.Entry.TheVariants as entries
 use Rattle.bl_selection.specs.Selection.{whole_selection, draft_of}
-use Rattle.bl_linking.specs.Append.{merge, source, appended_draft}
+use Rattle.bl_linking.specs.Append.{merge_of, source, appended_draft}
 use Rattle.bl_linking.specs.Link.{linked_draft}
-use Rattle.bl_linking.specs.Resolve.{Opened, resolved_draft}
+use Rattle.bl_linking.specs.Resolve.{OpenFile, resolved_draft}
 use Rattle.bl_selection.specs.Drafts.{is_good_entry, is_well_formed}
 use Rattle.bl_rows.proofs.Graphs.{layout, graphs, links}
 use Rattle.bl_rows.proofs.Merged.{selecting, merging, resolving}
@@ -21,11 +21,11 @@ whole : is_well_formed (wide_lib ∷ []) (whole_selection wide_lib front.header 
 unfolding graphs selecting forming
 whole = refl
 
-appends : is_well_formed (front ∷ wide_lib ∷ []) (appended_draft (merge (source front) (source wide_lib) (codes "OBq" ∷ []))) ≡ true
+appends : is_well_formed (front ∷ wide_lib ∷ []) (appended_draft (merge_of (source front) (source wide_lib) (codes "OBq" ∷ []))) ≡ true
 unfolding graphs links selecting merging forming
 appends = refl
 
-appends_libraries : is_well_formed (into ∷ lib ∷ []) (appended_draft (merge (source into) (source lib) (codes "OBa" ∷ []))) ≡ true
+appends_libraries : is_well_formed (into ∷ lib ∷ []) (appended_draft (merge_of (source into) (source lib) (codes "OBa" ∷ []))) ≡ true
 unfolding graphs links selecting merging forming
 appends_libraries = refl
 
@@ -37,10 +37,10 @@ links_made : is_well_formed (into ∷ []) (linked_draft (source into) (codes "ne
 unfolding graphs links selecting merging forming
 links_made = refl
 
-abbrev ring : List Opened
+abbrev ring : List OpenFile
 ring = record { name = codes "a"; at = source ring_a } ∷ record { name = codes "c"; at = source ring_c } ∷ record { name = codes "b"; at = source ring_b } ∷ []
 
-resolves : is_well_formed (map (λ (o : Opened). o.at.file) ring) (resolved_draft ring) ≡ true
+resolves : is_well_formed (map (λ (o : OpenFile). o.at.file) ring) (resolved_draft ring) ≡ true
 unfolding graphs links selecting merging resolving forming
 resolves = refl
 

@@ -12,7 +12,7 @@ use Rattle.bl_format.specs.Graph.{Node, leaf_value, cells, contents_by, node_cel
 use Rattle.bl_selection.specs.Fate.{carried_value}
 use Rattle.bl_selection.specs.Selection.{entry_is_id, entry_names, entry_cells, selection_views, entry_node, selection_graph, is_kept, rebuilt_graph}
 use Rattle.bl_selection.specs.Written.{element_written, contents_written, node_written, written_form}
-use Rattle.bl_linking.specs.References.{node_is_id, id_whole, full_name, named_by, references_of, references, library_of, leads_to, closure_of, is_fake, users_of, with_users_of, with_users, with_name, path_array, library_path, with_path}
+use Rattle.bl_linking.specs.References.{node_is_id, id_whole, full_name, nodes_named_by, references_of, references, library_of, leads_to, closure_of, is_fake, users_of, with_users_of, with_users, with_name, path_array, library_path, with_path}
 use Rattle.bl_rows.proofs.Known.{k8, h405, made1, made1_bytes, made3, made3_bytes, row11}
 
 unfoldable pub layout : ℕ
@@ -28,7 +28,7 @@ unfolding layout bits_of element_written contents_written node_written written_f
 writing = 0
 
 unfoldable pub links : ℕ
-unfolding layout numbers_reached node_is_id id_whole full_name named_by references_of references library_of leads_to closure_of is_fake users_of with_users_of with_users with_name path_array library_path with_path
+unfolding layout numbers_reached node_is_id id_whole full_name nodes_named_by references_of references library_of leads_to closure_of is_fake users_of with_users_of with_users with_name path_array library_path with_path
 links = 0
 
 names : map full_name (graph made3) ≡ codes "OBo0" ∷ codes "MEm0" ∷ [] ∷ codes "OBo1" ∷ codes "MEm1" ∷ [] ∷ codes "OBo2" ∷ codes "MEm2" ∷ [] ∷ []

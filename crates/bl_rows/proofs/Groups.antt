@@ -8,14 +8,14 @@ use Rattle.bl_format.specs.declared.raw.RawKind.TheVariants.{Bytes, Numbers, Poi
 use Rattle.bl_format.specs.Words.{numbers_below}
 use Rattle.bl_format.specs.Nodes.{File, Mark, target_of}
 use Rattle.bl_format.specs.Graph.{Value, Points, Contents, IsBytes, IsNumbers, IsPointers, IsPair, Node, Struct, Raw, contents_by, raw_length, graph}
-use Rattle.bl_linking.specs.References.{field, node_fields, node_in, node_group}
+use Rattle.bl_linking.specs.References.{value_at_path, node_fields, node_in, node_group}
 use Rattle.bl_rows.proofs.Graphs.{graphs}
 use Rattle.bl_rows.proofs.Known.{row11}
 use Rattle.bl_rows.proofs.Faulty.{row9, row10, row12, mixed}
 
 -- what the pointers index, co, users and extra of a mesh name
 abbrev pointers_of : File → ℕ → List (Option (Value (Option ℕ)))
-pointers_of f n = let g = graph f in map (λ name. field (node_fields (node_in g n)) ((name, 0) ∷ [])) (codes "index" ∷ codes "co" ∷ codes "users" ∷ codes "extra" ∷ [])
+pointers_of f n = let g = graph f in map (λ name. value_at_path (node_fields (node_in g n)) ((name, 0) ∷ [])) (codes "index" ∷ codes "co" ∷ codes "users" ∷ codes "extra" ∷ [])
 
 abbrev raw_parts : Node → Option (RawKind × Contents)
 raw_parts (Raw code group count kind contents) = Some (kind, contents)
@@ -55,7 +55,7 @@ unfolding graphs
 mixed_raw = refl
 
 -- a pointer to an ID of another group: the last ID with the address, passing over other nodes with it
-mixed_parent : map (λ name. field (node_fields (node_in (graph mixed) 6)) ((name, 0) ∷ [])) (codes "parent" ∷ codes "data" ∷ []) ≡ Some (Points (Some 6)) ∷ Some (Points (Some 1)) ∷ []
+mixed_parent : map (λ name. value_at_path (node_fields (node_in (graph mixed) 6)) ((name, 0) ∷ [])) (codes "parent" ∷ codes "data" ∷ []) ≡ Some (Points (Some 6)) ∷ Some (Points (Some 1)) ∷ []
 unfolding graphs
 mixed_parent = refl
 

@@ -145,9 +145,9 @@ too_deep = refl
 
 -- ---- widths
 
-too_long : rewidth_fault (small (codes "*p[16383]" ∷ []) ((codes "void", 0) ∷ (codes "S", 65532) ∷ []) ((1, (0, 0) ∷ []) ∷ [])) Four Eight ≡ Some (TooLong 131064)
+overlong_length : rewidth_fault (small (codes "*p[16383]" ∷ []) ((codes "void", 0) ∷ (codes "S", 65532) ∷ []) ((1, (0, 0) ∷ []) ∷ [])) Four Eight ≡ Some (TooLong 131064)
 unfolding faults tail_of length_within rewidth_fault
-too_long = refl
+overlong_length = refl
 
 just_fits : rewidth_fault (small (codes "*p[8191]" ∷ []) ((codes "void", 0) ∷ (codes "S", 32771) ∷ []) ((1, (0, 0) ∷ []) ∷ [])) Four Eight ≡ None
 unfolding faults tail_of length_within rewidth_fault

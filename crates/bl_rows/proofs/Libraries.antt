@@ -9,7 +9,7 @@ use Rattle.bl_format.specs.Graph.{graph}
 use Rattle.bl_selection.specs.Selection.{rebuilt_graph}
 use Rattle.bl_selection.specs.Written.{written_form}
 use Rattle.bl_linking.specs.Append.{appended_graph, source}
-use Rattle.bl_linking.specs.Resolve.{Opened, Shelf, with_next, next_path, resolved_from}
+use Rattle.bl_linking.specs.Resolve.{OpenFile, Shelf, with_next_file, next_path, resolved_from}
 use Rattle.bl_rows.proofs.Graphs.{layout, graphs, writing, links}
 use Rattle.bl_rows.proofs.Merged.{selecting, merging, resolving}
 use Rattle.bl_rows.proofs.Known.{k8, h405, r10p, r10q, r10r_bytes, row21a, row21b, row21o_bytes, row16, without_mesh, changed}
@@ -22,10 +22,10 @@ reused = refl
 shelf : Shelf
 shelf name = if bytes_eq name (codes "a.blend") then Some row21a else if bytes_eq name (codes "b.blend") then Some row21b else None
 
-abbrev opened : List Opened
+abbrev opened : List OpenFile
 opened = record { name = codes "a.blend"; at = source row21a } ∷ record { name = codes "b.blend"; at = source row21b } ∷ []
 
-opens : with_next shelf (record { name = codes "a.blend"; at = source row21a } ∷ []) ≡ opened
+opens : with_next_file shelf (record { name = codes "a.blend"; at = source row21a } ∷ []) ≡ opened
 unfolding graphs links selecting merging resolving shelf
 opens = refl
 

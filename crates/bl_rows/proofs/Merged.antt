@@ -20,7 +20,7 @@ use Rattle.bl_selection.specs.Written.{written_form}
 use Rattle.bl_linking.specs.References.{full_name, users_of, node_is_id, nodes_where}
 use Rattle.bl_linking.specs.Append.{source, local_named, plain_nodes, new_libraries, new_placeholders, branches, appended_entries, appended_draft, old_name, fresh_names, with_old_texts, appended_graph}
 use Rattle.bl_linking.specs.Link.{given_values, made_placeholder, made_library, linked_entries, linked_draft, linked_graph}
-use Rattle.bl_linking.specs.Resolve.{stands_for, leads_over, needed_ids, needed_placeholders, next_path, with_next, opened_within, opened_files, resolved_entries, resolved_draft, resolved_from, Opened, Shelf}
+use Rattle.bl_linking.specs.Resolve.{original_of, leads_over, needed_ids, needed_placeholders, next_path, with_next_file, files_opened_within, opened_files, resolved_entries, resolved_draft, resolved_from, OpenFile, Shelf}
 use Rattle.bl_rows.proofs.Graphs.{layout, graphs, writing, links}
 use Rattle.bl_rows.proofs.Known.{k8, k4, h405, h405_4b, made3, made3_bytes, row11, row19a, row19b, row20d, row20d_bytes, row19c_bytes}
 
@@ -33,7 +33,7 @@ unfolding cut base_of suffix_of candidate least_free fresh_name digits local_nam
 merging = 0
 
 unfoldable pub resolving : ℕ
-unfolding stands_for leads_over needed_ids needed_placeholders next_path with_next opened_within opened_files resolved_entries resolved_draft resolved_from
+unfolding original_of leads_over needed_ids needed_placeholders next_path with_next_file files_opened_within opened_files resolved_entries resolved_draft resolved_from
 resolving = 0
 
 -- row 17: the narrower form
@@ -87,10 +87,10 @@ linked_is = refl
 abbrev shelf : Shelf
 shelf name = if bytes_eq name (codes "b.blend") then Some row19b else if bytes_eq name (codes "d.blend") then Some row20d else None
 
-abbrev opened : List Opened
+abbrev opened : List OpenFile
 opened = record { name = codes "d.blend"; at = source row20d } ∷ record { name = codes "b.blend"; at = source row19b } ∷ []
 
-opens : with_next shelf (record { name = codes "d.blend"; at = source row20d } ∷ []) ≡ opened
+opens : with_next_file shelf (record { name = codes "d.blend"; at = source row20d } ∷ []) ≡ opened
 unfolding graphs links selecting merging resolving
 opens = refl
 

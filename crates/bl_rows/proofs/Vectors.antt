@@ -60,6 +60,6 @@ enumerate_from : fresh_name (codes "OBCube.001" ∷ []) (codes "OBCube.001") 66 
 unfolding fresh_name cut base_of suffix_of candidate least_free digits
 enumerate_from = refl
 
-too_long : fresh_name [] (codes "OBabcdefghijklmnop") 16 ≡ codes "OBabcdefghijklm"
+overlong_length : fresh_name [] (codes "OBabcdefghijklmnop") 16 ≡ codes "OBabcdefghijklm"
 unfolding fresh_name cut
-too_long = refl
+overlong_length = refl

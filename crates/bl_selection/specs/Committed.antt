@@ -1,5 +1,5 @@
--- What a committed file is: accepted, with a header, a catalogue and a graph that are given, in their written form;
--- and what convert commits. This project's own.
+-- What a committed file is: accepted, with a header, a catalogue and a graph that are given, in their
+-- written form; and what convert commits. This project's own.
 use Rattle.std.specs.Prelude.{◌≡◌, ℕ, List, Option, option_map, unwrap_or, IfSome}
 use Rattle.bl_num.specs.declared.number.Order.{Order}
 use Rattle.bl_num.specs.declared.number.Width.{Width}
@@ -22,7 +22,8 @@ pub record Stands (b : List ℕ) (h : Header) (c : Catalogue) (g : List Node) : 
 
 -- ---- convert
 
--- the header of a converted file: width and order are the options', else IN's; the version is CAT's, else IN's
+-- the header of a converted file: width and order are the options', else IN's; the version is CAT's, else
+-- IN's
 abbrev pub target_header : File → Option File → Option Width → Option Order → Header
 target_header f like width order = record f.header {
   width = unwrap_or width f.header.width;
@@ -53,4 +54,5 @@ pub record IsConverted
   pub accepted : Accepted old file
   pub like_file : Option File
   pub likewise : AcceptedIfGiven like like_file
-  pub stands : IsRebuilt file (target_header file like_file width order) (target_catalogue file like_file width) new
+  pub stands : IsRebuilt file (target_header file like_file width order)
+      (target_catalogue file like_file width) new

@@ -1,5 +1,5 @@
--- When a draft is well-formed: whole groups of its sources in order, images and given values in range, codes that
--- can be read again. The calls that read or write a draft ask for it. This project's own.
+-- When a draft is well-formed: whole groups of its sources in order, images and given values in range,
+-- codes that can be read again. The calls that read or write a draft ask for it. This project's own.
 use Rattle.std.specs.Prelude.{ℕ, ◌-◌, ◌^◌, Bool, true, false, not, ◌&&◌, ◌||◌, ◌==◌, nat_le, nat_lt, List, [], ◌∷◌, length, drop, filter, get_or, Option, Some, None, is_some, codes}
 use Rattle.std.specs.List.{list_all, list_any, zip}
 use Rattle.std.specs.Str.{bytes_eq}
@@ -37,8 +37,8 @@ are_sources i [] es = true
 are_sources i (n ∷ ns) [] = false
 are_sources i (n ∷ ns) (e ∷ es) = is_source i n e && are_sources i ns es
 
--- entry e may be node n of file i: the kept nodes of its group stand around it in order, those of a group without
--- a head at the very front, and the entry is the node's own image
+-- entry e may be node n of file i: the kept nodes of its group stand around it in order, those of a group
+-- without a head at the very front, and the entry is the node's own image
 abbrev pub is_good_source : List File → Draft → ℕ → ℕ → ℕ → Bool
 is_good_source files d e i n = by_place (first_place (λ m. m == n) (kept_in_group f d n))
   where
@@ -57,7 +57,8 @@ is_good_source files d e i n = by_place (first_place (λ m. m == n) (kept_in_gro
         && (is_some (head_of (file_codes f) n) || e == j)
         && is_own_image (image_of d i n)
 
--- there is one list of images for each file, with one image for each of its nodes, and each is an entry or none
+-- there is one list of images for each file, with one image for each of its nodes, and each is an entry or
+-- none
 abbrev pub has_good_images : List File → Draft → Bool
 has_good_images files d =
     length d.images == length files && list_all is_good (zip files d.images)
@@ -67,12 +68,13 @@ has_good_images files d =
 
 -- ---- made values and overrides
 
--- a leaf of a kind in entry e may be given this: a number for a whole number or a pattern, and for a pointer an
--- entry in its scope
+-- a leaf of a kind in entry e may be given this: a number for a whole number or a pattern, and for a
+-- pointer an entry in its scope
 abbrev pub fits_kind : List File → Draft → ℕ → Kind → MadeTo → Bool
 fits_kind files d e (kinds.Whole w) (to.Number v) = true
 fits_kind files d e (kinds.Bits n) (to.Number v) = true
-fits_kind files d e (kinds.Pointer depth t) (to.Node x) = nat_lt x (length d.entries) && is_some (target_in_scope files d e x)
+fits_kind files d e (kinds.Pointer depth t) (to.Node x) =
+    nat_lt x (length d.entries) && is_some (target_in_scope files d e x)
 fits_kind files d e kind value = false
 
 -- an element of a leaf of struct s, in entry e, may be given this

@@ -1,6 +1,6 @@
--- What becomes of the members of a struct under another catalogue: the fate of each member, and the value that
--- each element of a leaf is carried to. That members meet by name is Blender's way (`DNA_genfile`); the fates,
--- which casts there are, and that floats meet no other numbers are this project's own.
+-- What becomes of the members of a struct under another catalogue: the fate of each member, and the value
+-- that each element of a leaf is carried to. That members meet by name is Blender's way (`DNA_genfile`);
+-- the fates, which casts there are, and that floats meet no other numbers are this project's own.
 use Rattle.std.specs.Prelude.{ℕ, ◌-◌, min, Bool, true, false, not, ◌&&◌, ◌||◌, ◌==◌, nat_lt, if◌then◌else◌, List, [], ◌∷◌, length, Option, Some, None, option_map, pos, codes}
 use Rattle.std.specs.List.{find}
 use Rattle.std.specs.Str.{bytes_eq}
@@ -20,15 +20,18 @@ use Rattle.bl_format.specs.Graph.{Value, Number, Pattern, Points, Opaque, Naming
 
 -- the fate of members that carry their values over, by the counts of their elements
 abbrev pub fate_by_count : ℕ → ℕ → Fate
-fate_by_count from to = if nat_lt to from then fates.Cut else if nat_lt from to then fates.Extended else fates.Kept
+fate_by_count from to =
+    if nat_lt to from then fates.Cut else
+    if nat_lt from to then fates.Extended else
+    fates.Kept
 
 -- both signs are one
 abbrev pub same_sign : Bool → Bool → Bool
 same_sign true b = b
 same_sign false b = not b
 
--- the fate of two members by value, by what they hold, whether their types have one name and one length, and
--- their fate by counts
+-- the fate of two members by value, by what they hold, whether their types have one name and one length,
+-- and their fate by counts
 abbrev pub fate_by_content : Content → Content → Bool → Bool → Fate → Fate
 fate_by_content (IsBasic (IsWhole a ms)) (IsBasic (IsWhole b ns)) name length counts =
     if same_sign a b && length then counts else fates.Cast
@@ -74,9 +77,9 @@ fate_of from v s to w t k = go (member_of_key from s (name_of to t k).key)
 
 -- ---- one leaf
 
--- Values are carried leaf by leaf. The way to a leaf has the name of each struct on it, each member's key and the
--- element, so two ways meet exactly where member after member comes to the same pair, with elements that both
--- structs have. Members of size 0 have no leaves.
+-- Values are carried leaf by leaf. The way to a leaf has the name of each struct on it, each member's key
+-- and the element, so two ways meet exactly where member after member comes to the same pair, with elements
+-- that both structs have. Members of size 0 have no leaves.
 
 -- two members on the way to a leaf meet: of structs of one name, with one key, at one element
 abbrev pub steps_meet : MemberStep → MemberStep → Bool
@@ -120,17 +123,19 @@ zero_of_kind null kinds.Opaque n = Opaque (zeros n)
 abbrev pub zero_of : {P : Type 0} → P → NamedLeaf → Value P
 zero_of null y = zero_of_kind null y.kind y.size
 
--- a value of the source's kind under the target's, or another value where the kinds don't meet; alike says that
--- both leaves have one type name and one size
+-- a value of the source's kind under the target's, or another value where the kinds don't meet; alike says
+-- that both leaves have one type name and one size
 abbrev pub converted_value : {P : Type 0} → Bool → Value P → Kind → Kind → Value P → Value P
 converted_value alike other (kinds.Pointer a s) (kinds.Pointer b t) v = v
-converted_value alike other (kinds.Whole a) (kinds.Whole b) (Number z) = Number (number_meant b (bits_of b.bytes z))
+converted_value alike other (kinds.Whole a) (kinds.Whole b) (Number z) =
+    Number (number_meant b (bits_of b.bytes z))
 converted_value alike other (kinds.Bits a) (kinds.Bits b) v = if alike then v else other
 converted_value alike other kinds.Opaque kinds.Opaque v = if alike then v else other
 converted_value alike other _ _ v = other
 
 -- the value of element k of target leaf y, from the source leaf that it meets
-abbrev pub value_from : {P : Type 0} → P → Naming P → Order → List ℕ → Option NamedLeaf → NamedLeaf → ℕ → Value P
+abbrev pub value_from : {P : Type 0}
+    → P → Naming P → Order → List ℕ → Option NamedLeaf → NamedLeaf → ℕ → Value P
 value_from null names order bytes None y k = zero_of null y
 value_from null names order bytes (Some x) y k =
     let alike = same_type x y && x.size == y.size in
@@ -139,7 +144,8 @@ value_from null names order bytes (Some x) y k =
     else zero_of null y
 
 -- the value of element k of target leaf y, from the source's leaves and the bytes of one of its elements
-unfoldable pub carried_value : {P : Type 0} → P → Naming P → Order → List NamedLeaf → List ℕ → NamedLeaf → ℕ → Value P
+unfoldable pub carried_value : {P : Type 0}
+    → P → Naming P → Order → List NamedLeaf → List ℕ → NamedLeaf → ℕ → Value P
 carried_value null names order xs bytes y k = value_from null names order bytes (source_leaf xs y) y k
 
 -- ---- a float and another number
@@ -165,7 +171,7 @@ direct_member [] = (0, 0)
 direct_member (step ∷ []) = (step.s, step.member)
 direct_member (step ∷ next ∷ steps) = direct_member (next ∷ steps)
 
--- the first target leaf that can't be carried, by struct and member; one within a struct by value is told under
--- the inner struct
+-- the first target leaf that can't be carried, by struct and member; one within a struct by value is told
+-- under the inner struct
 unfoldable pub first_clash : List NamedLeaf → List NamedLeaf → Option (ℕ × ℕ)
 first_clash xs ys = option_map (λ (y : NamedLeaf). direct_member y.way) (find (clashes xs) ys)

@@ -1,7 +1,7 @@
--- Selections: which nodes of some files, and which nodes made here, an output has, under which catalogue, and what
--- stands for a node that others name; the graph of a selection; and the rebuilt graph, that of all nodes of a file
--- that a catalogue keeps. This project's own.
-use Rattle.std.specs.Prelude.{ℕ, zero, suc, ◌*◌, ◌%◌, ◌^◌, Bool, true, false, not, ◌&&◌, ◌||◌, ◌==◌, if◌then◌else◌, List, [], ◌∷◌, length, take, map, flat_map, filter, count_by, get_or, Option, Some, None, option_map, option_and_then, unwrap_or, codes}
+-- Selections: which nodes of some files, and which nodes made here, an output has, under which catalogue,
+-- and what stands for a node that others name; the graph of a selection; and the rebuilt graph, that of all
+-- nodes of a file that a catalogue keeps. This project's own.
+use Rattle.std.specs.Prelude.{ℕ, zero, suc, ◌*◌, ◌%◌, ◌^◌, Bool, true, false, not, ◌&&◌, ◌||◌, ◌==◌, if◌then◌else◌, List, [], ◌∷◌, length, take, map, flat_map, filter, count_by, get_or, Option, Some, None, option_map, option_and_then, codes}
 use Rattle.std.specs.List.{find}
 use Rattle.bl_num.specs.declared.number.Order.TheVariants.{Little}
 use Rattle.bl_num.specs.declared.number.Width.TheVariants.{Eight}
@@ -21,7 +21,7 @@ use Rattle.bl_selection.specs.declared.draft.MadeTo.{MadeTo}
 use Rattle.bl_selection.specs.declared.draft.MadeTo.TheVariants as to
 use Rattle.bl_selection.specs.declared.draft.Override.{Override}
 use Rattle.bl_format.specs.Words.{find_map, numbers_below, last_place}
-use Rattle.bl_format.specs.Layout.{NamedLeaf, named_leaves, struct_name, struct_named}
+use Rattle.bl_format.specs.Layout.{NamedLeaf, named_leaves, struct_name, struct_number}
 use Rattle.bl_format.specs.Nodes.{File, payload, is_data, group_of, is_id, raw_kind}
 use Rattle.std.specs.List.{enumerate_from}
 use Rattle.bl_format.specs.Graph.{Target, Value, Number, Pattern, Points, Opaque, Node, Struct, Raw, Naming, Cell, cells, fields, node_elements, contents_by, views_of, form_of, file_codes, file_names}
@@ -50,11 +50,11 @@ file_at files i = get_or files i no_file
 abbrev pub node_at : List File → ℕ → ℕ → Head
 node_at files i n = get_or (file_at files i).nodes n no_head
 
--- the number in catalogue c of the struct with the name of a struct of another catalogue; 0 where there is none,
--- and for raw data
+-- the number in catalogue c of the struct with the name of a struct of another catalogue; 0 where there is
+-- none, and for raw data
 abbrev pub index_under : Catalogue → Catalogue → ℕ → ℕ
 index_under c from zero = 0
-index_under c from (suc s) = unwrap_or (struct_named c (struct_name from (suc s))) 0
+index_under c from (suc s) = struct_number c (struct_name from (suc s))
 
 -- ---- the entries as nodes
 
@@ -115,7 +115,8 @@ abbrev pub target_in_scope : List File → Draft → ℕ → ℕ → Option ℕ
 target_in_scope files d e to =
     if entry_group files d to == entry_group files d e || entry_is_id files d to then Some to else None
 
--- what an address in node n of file i names from entry e: the image of what it names there, where that is in scope
+-- what an address in node n of file i names from entry e: the image of what it names there, where that is
+-- in scope
 unfoldable pub entry_names : List File → Draft → ℕ → ℕ → ℕ → Naming Target
 entry_names files d e i n address =
     let f = file_at files i in
@@ -152,7 +153,8 @@ given_at m j k =
 -- the cells of element p of entry e, of struct t, by what gives its values before overrides
 abbrev pub overridden_cells : Draft → ℕ → ℕ → ℕ → (ℕ → NamedLeaf → ℕ → Value Target) → List Cell
 overridden_cells d e p t value =
-    cells (λ j x k. given_or x (value j x k) (override_at d e p j k)) (named_leaves d.catalogue d.header.width t)
+    let leaves = named_leaves d.catalogue d.header.width t in
+    cells (λ j x k. given_or x (value j x k) (override_at d e p j k)) leaves
 
 -- the cells of each element of entry e, which is node n of file i, a struct node
 abbrev pub source_cells : List File → Draft → ℕ → ℕ → ℕ → List (List Cell)

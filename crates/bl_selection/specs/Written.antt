@@ -1,6 +1,7 @@
--- The one byte list in which a graph is written under a header and a catalogue. Heads and blocks are those of
--- Blender's `writefile`; the addresses, the zeros outside all leaves and the whole last head are this project's own.
-use Rattle.std.specs.Prelude.{ℕ, ◌+◌, ◌-◌, ◌*◌, List, [], ◌∷◌, ◌++◌, length, map, flat_map, zip, Option, Some, None, unwrap_or, codes}
+-- The one byte list in which a graph is written under a header and a catalogue. Heads and blocks are those
+-- of Blender's `writefile`; the addresses, the zeros outside all leaves and the whole last head are this
+-- project's own.
+use Rattle.std.specs.Prelude.{ℕ, ◌+◌, ◌-◌, ◌*◌, List, [], ◌∷◌, ◌++◌, length, map, flat_map, zip, Option, Some, None, codes}
 use Rattle.bl_num.specs.declared.number.Order.{Order}
 use Rattle.bl_num.specs.Numbers.{pointer_bytes, bytes_of, bits_of}
 use Rattle.bl_format.specs.declared.file.Header.{Header}
@@ -10,7 +11,7 @@ use Rattle.bl_format.specs.declared.raw.RawKind.TheVariants as raw
 use Rattle.bl_format.specs.Words.{numbers_below, zeros}
 use Rattle.bl_format.specs.Blocks.{header_written, head_written, head_size}
 use Rattle.bl_format.specs.Schema.{catalogue_written}
-use Rattle.bl_format.specs.Layout.{NamedLeaf, named_leaves, struct_length, struct_named}
+use Rattle.bl_format.specs.Layout.{NamedLeaf, named_leaves, struct_length, struct_number}
 use Rattle.std.specs.List.{enumerate_from}
 use Rattle.bl_format.specs.Graph.{Target, Value, Number, Pattern, Points, Opaque, Path, Fields, Contents, IsBytes, IsNumbers, IsPointers, IsPair, Node, Struct, Raw}
 
@@ -51,7 +52,8 @@ contents_written h (raw.Numbers n) (IsNumbers patterns rest) = flat_map (bytes_o
 contents_written h kind (IsNumbers patterns rest) = rest
 contents_written h kind (IsPointers to) =
     flat_map (λ o. bytes_of h.order (pointer_bytes h.width) (address_of o)) to
-contents_written h kind (IsPair first second rest) = bytes_of h.order 4 first ++ bytes_of h.order 4 second ++ rest
+contents_written h kind (IsPair first second rest) =
+    bytes_of h.order 4 first ++ bytes_of h.order 4 second ++ rest
 
 -- a block of a code, an address, a struct's number, a count and a payload
 abbrev pub block_written : Header → List ℕ → ℕ → ℕ → ℕ → List ℕ → List ℕ
@@ -68,7 +70,7 @@ block_written h code address index count payload =
 -- node k, numbered from 0, as a block
 unfoldable pub node_written : Header → Catalogue → ℕ → Node → List ℕ
 node_written h c k (Struct code name g es) =
-    let s = unwrap_or (struct_named c name) 0 in
+    let s = struct_number c name in
     let payload = flat_map (element_written h.order (struct_length c s) (named_leaves c h.width s)) es in
     block_written h code (address_of (Some k)) s (length es) payload
 node_written h c k (Raw code g n kind contents) =
@@ -78,8 +80,8 @@ node_written h c k (Raw code g n kind contents) =
 abbrev pub catalogue_block : Header → Catalogue → List ℕ
 catalogue_block h c = block_written h (codes "DNA1") 0 0 1 (catalogue_written h.order c)
 
--- the written form of a graph: the header, the nodes, the catalogue, and a whole last head, which is `ENDB` and
--- zeros
+-- the written form of a graph: the header, the nodes, the catalogue, and a whole last head, which is `ENDB`
+-- and zeros
 unfoldable pub written_form : Header → Catalogue → List Node → List ℕ
 written_form h c nodes =
     header_written h
