@@ -1,6 +1,8 @@
--- What is read from a payload is a catalogue by the grammar.
+-- What a payload of bytes reads as is a catalogue by the grammar: its counts fit, its numbers are in range, its names
+-- have no zeros, and its types' names and its structs' types differ. So what was read, written and read again is the
+-- same.
 use Rattle.std.proofs.Common.{◌≡◌, ◌≢◌, ℕ, zero, suc, ◌+◌, ◌^◌, ◌<◌, Bool, true, false, not, cond, List, [], ◌∷◌, length, take, drop, Some, None, Result, Ok, Err, refl, sym, subst, ◌∙◌, arith}
-use Rattle.std.specs.Prelude.{◌||◌, All, codes, nat_lt, ◌==◌, slice_index, if◌then◌else◌}
+use Rattle.std.specs.Prelude.{◌||◌, All, codes, nat_lt, ◌==◌, if◌then◌else◌}
 use Rattle.std.specs.List.{slice_index_or, AllPairs, position_or_len, list_any}
 use Rattle.std.specs.Str.{bytes_eq}
 use Rattle.std.proofs.lemmas.List.Elements.{All-head, All-tail, All-cons}
@@ -8,10 +10,8 @@ use Rattle.std.proofs.lemmas.Bool.{ltb-true}
 use Rattle.std.proofs.lemmas.List.Kept.{AllPairs-cons}
 use Rattle.std.proofs.lemmas.Slice.Eq.{bytes_eq-Decides}
 use Rattle.std.proofs.lemmas.Bool.Decides.{Decides-eqb}
-use Rattle.byteorder.specs.Numbers.{big_from-lt, little_from-lt}
+use Rattle.bl_num.proofs.BytesOf.{number_of-lt}
 use Rattle.bl_num.specs.declared.number.Order.{Order}
-use Rattle.bl_num.specs.declared.number.Order.TheVariants.{Little, Big}
-use Rattle.bl_num.specs.Numbers.{number_of}
 use Rattle.bl_format.specs.declared.catalogue.SdnaFault.{SdnaFault}
 use Rattle.bl_format.specs.declared.catalogue.Catalogue.{Catalogue}
 use Rattle.bl_format.specs.declared.catalogue.TypeEntry.{TypeEntry}
@@ -19,7 +19,7 @@ use Rattle.bl_format.specs.declared.catalogue.StructEntry.{StructEntry}
 use Rattle.bl_format.specs.declared.catalogue.MemberEntry.{MemberEntry}
 use Rattle.bl_format.specs.Words.{part, number_at, is_one_of, aligned_place}
 use Rattle.bl_format.specs.declared.catalogue.SdnaFault.TheVariants.{CutShort, TwoTypes, TwoStructs}
-use Rattle.bl_format.proofs.CatalogueBack.{catalogue_back}
+use Rattle.bl_format.proofs.CatalogueBack.{pairs_head, pairs_tail, catalogue_of-catalogue_written}
 use Rattle.bl_format.specs.Schema.{◌>>=◌, Reading, ensure, count_at, index_at, name_by, name_at, many_at, type_names_at, member_at, structs_at, type_entries, names_at, types_at, lengths_at, all_structs_at, catalogue_of, catalogue_written, tag_at, IsName, MemberFits, StructFits, IsCatalogue}
 
 IsByte : ℕ → Type 0
@@ -46,20 +46,11 @@ all_drop zero xs all = all
 all_drop (suc n) [] all = all
 all_drop (suc n) (x ∷ xs) all = all_drop n xs (All-tail (λ b. b < 256) x xs all)
 
-byte_at : (xs : List ℕ) → All (λ b. b < 256) xs → (k : ℕ) → slice_index xs k < 256
-byte_at [] all k = omega arith
-byte_at (x ∷ xs) all zero = All-head (λ b. b < 256) x xs all
-byte_at (x ∷ xs) all (suc k) = byte_at xs (All-tail (λ b. b < 256) x xs all) k
-
-number_lt : (order : Order) (n : ℕ) (xs : List ℕ) → All (λ b. b < 256) xs → number_of order n xs < 256 ^ n
-number_lt Little n xs all = little_from-lt 0 n xs (byte_at xs all)
-number_lt Big n xs all = big_from-lt 0 n xs (byte_at xs all)
-
 count_lt : (order : Order) (n : ℕ) (p : List ℕ) (at : ℕ) (v : ℕ × ℕ) → All (λ b. b < 256) p → count_at order n p at ≡ Ok v → v.0 < 256 ^ n
 unfolding count_at
 count_lt order n p at v all e =
     let same : (number_at order p at n, at + n) ≡ v = if_ok (nat_lt (length p) (at + n)) _ (number_at order p at n, at + n) v e in
-    subst (λ (x : ℕ × ℕ). x.0 < 256 ^ n) same (number_lt order n (drop at p) (all_drop at p all))
+    subst (λ (x : ℕ × ℕ). x.0 < 256 ^ n) same (number_of-lt order n (drop at p) (all_drop at p all))
 
 index_lt : (order : Order) (n : ℕ) (p : List ℕ) (at : ℕ) (v : ℕ × ℕ) → All (λ b. b < 256) p → index_at order n p at ≡ Ok v → (v.0 < n) × (v.0 < 2 ^ 16)
 unfolding index_at
@@ -213,12 +204,6 @@ entries_lengths P [] ls all = λ k d lt. absurd (omega (arith, lt))
 entries_lengths P (x ∷ xs) [] all = λ k d lt. absurd (omega (arith, lt))
 entries_lengths P (x ∷ xs) (l ∷ ls) all = All-cons (λ (t : TypeEntry). P t.length) (record { name = x; length = l }) (type_entries xs ls) (All-head P l ls all) (entries_lengths P xs ls (All-tail P l ls all))
 
-pairs_head : {X : Type 0} (R : X → X → Type 0) (x : X) (xs : List X) → AllPairs R (x ∷ xs) → All (R x) xs
-pairs_head R x xs p = λ k d lt. p 0 (suc k) d (omega arith) (omega (arith, lt))
-
-pairs_tail : {X : Type 0} (R : X → X → Type 0) (x : X) (xs : List X) → AllPairs R (x ∷ xs) → AllPairs R xs
-pairs_tail R x xs p = λ i j d lt inside. p (suc i) (suc j) d (omega (arith, lt)) (omega (arith, inside))
-
 entries_differ : (names : List (List ℕ)) (lengths : List ℕ) → AllPairs (λ (x y : List ℕ). x ≢ y) names → AllPairs (λ (t u : TypeEntry). t.name ≢ u.name) (type_entries names lengths)
 entries_differ [] ls p = λ i j d lt inside. absurd (omega (arith, inside))
 entries_differ (x ∷ xs) [] p = λ i j d lt inside. absurd (omega (arith, inside))
@@ -258,9 +243,9 @@ all_structs_ok order c types names p at v et en all e =
     (n.0.0, structs_ok order c types names p n.0.0 [] n.0.1 v et en all n.2, omega (arith, few))
 
 -- what a payload of bytes reads as is a catalogue by the grammar
-pub read_is_catalogue : (order : Order) (p : List ℕ) (c : Catalogue) → All (λ b. b < 256) p → catalogue_of order p ≡ Ok c → IsCatalogue c
+pub IsCatalogue-catalogue_of : (order : Order) (p : List ℕ) (c : Catalogue) → All (λ b. b < 256) p → catalogue_of order p ≡ Ok c → IsCatalogue c
 unfolding catalogue_of
-read_is_catalogue order p c all e =
+IsCatalogue-catalogue_of order p c all e =
     let names = bind_ok (names_at order p) _ c e in
     let types = bind_ok (types_at order p names.0.1) _ c names.2 in
     let lengths = bind_ok (lengths_at order (length types.0.0) p types.0.1) _ c types.2 in
@@ -285,5 +270,5 @@ read_is_catalogue order p c all e =
     })
 
 -- what was read, written in either order and read again, is the same
-pub read_back : (order other : Order) (p : List ℕ) (c : Catalogue) → All (λ b. b < 256) p → catalogue_of order p ≡ Ok c → catalogue_of other (catalogue_written other c) ≡ Ok c
-read_back order other p c all e = catalogue_back other c (read_is_catalogue order p c all e)
+pub catalogue_of-written_again : (order other : Order) (p : List ℕ) (c : Catalogue) → All (λ b. b < 256) p → catalogue_of order p ≡ Ok c → catalogue_of other (catalogue_written other c) ≡ Ok c
+catalogue_of-written_again order other p c all e = catalogue_of-catalogue_written other c (IsCatalogue-catalogue_of order p c all e)

@@ -22,12 +22,12 @@ or_right true b e = refl
 or_right false b e = e
 
 -- an element of a list that passes is an element of the filtered list
-pub has-filter : (p : ℕ → Bool) (xs : List ℕ) (y : ℕ) → contains xs y ≡ true → p y ≡ true → contains (filter p xs) y ≡ true
-has-filter p [] y h e = absurd cc
-has-filter p (x ∷ xs) y h e =
+pub contains-filter : (p : ℕ → Bool) (xs : List ℕ) (y : ℕ) → contains xs y ≡ true → p y ≡ true → contains (filter p xs) y ≡ true
+contains-filter p [] y h e = absurd cc
+contains-filter p (x ∷ xs) y h e =
     elim (or_true (eqb x y) (contains xs y) h) [
       | inl same ↦ (let is : x ≡ y = eqb-true x y same in rw (is, e) (or_left (eqb y y) (contains (filter p xs) y) (rw is at same)))
-      | inr later ↦ with_more (p x) (has-filter p xs y later e)
+      | inr later ↦ with_more (p x) (contains-filter p xs y later e)
     ]
   where
     with_more : (b : Bool) → contains (filter p xs) y ≡ true → contains (cond b (x ∷ filter p xs) (filter p xs)) y ≡ true
@@ -64,7 +64,7 @@ round_is leads n roots (suc k) = refl
 
 passes_on : (leads : ℕ → ℕ → Bool) (n : ℕ) (roots : List ℕ) (k y : ℕ) → contains (numbers_below n) y ≡ true → round_test leads n roots k y ≡ true → round_test leads n roots (suc k) y ≡ true
 unfolding round_test
-passes_on leads n roots k y m e = or_left (contains (numbers_reached leads n k roots) y) (list_any (λ x. leads x y) (numbers_reached leads n k roots)) (rw (round_is leads n roots k) (has-filter (round_test leads n roots k) (numbers_below n) y m e))
+passes_on leads n roots k y m e = or_left (contains (numbers_reached leads n k roots) y) (list_any (λ x. leads x y) (numbers_reached leads n k roots)) (rw (round_is leads n roots k) (contains-filter (round_test leads n roots k) (numbers_below n) y m e))
 
 round_grows : (leads : ℕ → ℕ → Bool) (n : ℕ) (roots : List ℕ) (k : ℕ) → Grows (numbers_reached leads n k roots) (numbers_reached leads n (suc k) roots)
 round_grows leads n roots k = rw (round_is leads n roots k, round_is leads n roots (suc k)) (filter_grows (round_test leads n roots k) (round_test leads n roots (suc k)) (numbers_below n) (passes_on leads n roots k))
@@ -98,12 +98,12 @@ settles_or_grows leads n roots (suc k) =
     ]
 
 -- after as many rounds as there are numbers nothing is added
-pub settles : (leads : ℕ → ℕ → Bool) (n : ℕ) (roots : List ℕ) → numbers_reached leads n (suc n) roots ≡ numbers_reached leads n n roots
-settles leads n roots = elim (settles_or_grows leads n roots n) [ inl e ↦ e | inr lt ↦ absurd (omega (arith, round_fits leads n roots (suc n))) ]
+pub numbers_reached-suc : (leads : ℕ → ℕ → Bool) (n : ℕ) (roots : List ℕ) → numbers_reached leads n (suc n) roots ≡ numbers_reached leads n n roots
+numbers_reached-suc leads n roots = elim (settles_or_grows leads n roots n) [ inl e ↦ e | inr lt ↦ absurd (omega (arith, round_fits leads n roots (suc n))) ]
 
 -- what something reached leads to is reached
-pub closed : (leads : ℕ → ℕ → Bool) (n : ℕ) (roots : List ℕ) (x y : ℕ) → contains (numbers_below n) y ≡ true → list_any (λ z. leads z y) (numbers_reached leads n n roots) ≡ true → contains (numbers_reached leads n n roots) y ≡ true
+pub numbers_reached-closed : (leads : ℕ → ℕ → Bool) (n : ℕ) (roots : List ℕ) (x y : ℕ) → contains (numbers_below n) y ≡ true → list_any (λ z. leads z y) (numbers_reached leads n n roots) ≡ true → contains (numbers_reached leads n n roots) y ≡ true
 unfolding round_test
-closed leads n roots x y m e =
-    let next : contains (filter (round_test leads n roots (suc n)) (numbers_below n)) y ≡ true = has-filter (round_test leads n roots (suc n)) (numbers_below n) y m (or_right (contains (numbers_reached leads n n roots) y) (list_any (λ z. leads z y) (numbers_reached leads n n roots)) e) in
-    rw (← settles leads n roots, round_is leads n roots (suc n)) next
+numbers_reached-closed leads n roots x y m e =
+    let next : contains (filter (round_test leads n roots (suc n)) (numbers_below n)) y ≡ true = contains-filter (round_test leads n roots (suc n)) (numbers_below n) y m (or_right (contains (numbers_reached leads n n roots) y) (list_any (λ z. leads z y) (numbers_reached leads n n roots)) e) in
+    rw (← numbers_reached-suc leads n roots, round_is leads n roots (suc n)) next
