@@ -28,7 +28,8 @@ pub behind : (p t back : List ℕ) (at : ℕ) → drop at p ≡ t ++ back → dr
 behind p t back at stands = sym (drop-drop (length t) at p) ∙ ap (drop (length t)) stands ∙ drop_at t back (length t) refl
 
 -- a number of n bytes
-pub count_at-bytes_of : (order : Order) (n v at : ℕ) (p back : List ℕ) → 0 < n → v < 256 ^ n → drop at p ≡ bytes_of order n v ++ back → count_at order n p at ≡ Ok (v, at + n)
+pub count_at-bytes_of : (order : Order) (n v at : ℕ) (p back : List ℕ)
+    → 0 < n → v < 256 ^ n → drop at p ≡ bytes_of order n v ++ back → count_at order n p at ≡ Ok (v, at + n)
 unfolding count_at
 count_at-bytes_of order n v at p back some lt stands =
     let len = len_at p (bytes_of order n v) back at stands in
@@ -37,7 +38,8 @@ count_at-bytes_of order n v at p back some lt stands =
     rw (fits, number) refl
 
 -- a number of two bytes that is in range
-pub index_at-bytes_of : (order : Order) (n v at : ℕ) (p back : List ℕ) → v < n → v < 2 ^ 16 → drop at p ≡ bytes_of order 2 v ++ back → index_at order n p at ≡ Ok (v, at + 2)
+pub index_at-bytes_of : (order : Order) (n v at : ℕ) (p back : List ℕ)
+    → v < n → v < 2 ^ 16 → drop at p ≡ bytes_of order 2 v ++ back → index_at order n p at ≡ Ok (v, at + 2)
 unfolding index_at
 index_at-bytes_of order n v at p back inside lt stands = rw (count_at-bytes_of order 2 v at p back (omega arith) (omega (arith, lt)) stands, lt-ltb v n inside) refl
 
@@ -50,7 +52,8 @@ text_ne xs ys ne = false_from_ne_true (bytes_eq xs ys) (λ e. ne ((bytes_eq-Deci
 number_ne : (x y : ℕ) → x ≢ y → (x == y) ≡ false
 number_ne x y ne = false_from_ne_true (x == y) (λ e. ne ((Decides-eqb x y).0 e))
 
-pub tag_at-tag : (tag : List ℕ) (at : ℕ) (p back : List ℕ) → length tag ≡ 4 → drop at p ≡ tag ++ back → tag_at tag p at ≡ Ok (at + 4)
+pub tag_at-tag : (tag : List ℕ) (at : ℕ) (p back : List ℕ)
+    → length tag ≡ 4 → drop at p ≡ tag ++ back → tag_at tag p at ≡ Ok (at + 4)
 unfolding tag_at
 tag_at-tag tag at p back four stands =
     let len = len_at p tag back at stands in
@@ -59,14 +62,16 @@ tag_at-tag tag at p back four stands =
     rw (fits, same) refl
 
 -- the first zero stands behind a name
-zero_place : (name back : List ℕ) → IsName name → position_or_len (λ b. b == 0) (name ++ 0 ∷ back) ≡ length name
+zero_place : (name back : List ℕ)
+    → IsName name → position_or_len (λ b. b == 0) (name ++ 0 ∷ back) ≡ length name
 zero_place [] back is = refl
 zero_place (b ∷ bs) back is =
     let differs : (b == 0) ≡ false = number_ne b 0 (All-head (λ b. b ≢ 0) b bs is) in
     let more : position_or_len (λ b. b == 0) (bs ++ 0 ∷ back) ≡ length bs = zero_place bs back (All-tail (λ b. b ≢ 0) b bs is) in
     rw (differs, more) (omega arith)
 
-pub name_at-name : (name : List ℕ) (at : ℕ) (p back : List ℕ) → IsName name → drop at p ≡ name ++ 0 ∷ back → name_at p at ≡ Ok (name, at + length name + 1)
+pub name_at-name : (name : List ℕ) (at : ℕ) (p back : List ℕ)
+    → IsName name → drop at p ≡ name ++ 0 ∷ back → name_at p at ≡ Ok (name, at + length name + 1)
 unfolding name_at
 name_at-name name at p back is stands =
     let place : position_or_len (λ b. b == 0) (drop at p) ≡ length name = ap (position_or_len (λ b. b == 0)) stands ∙ zero_place name back is in
@@ -78,7 +83,8 @@ name_at-name name at p back is stands =
 -- things that are read back one by one are read back one after another
 pub many_at-all : {A : Type 0} (one : ℕ → Reading A) (write : A → List ℕ) (P : A → Type 0) (p : List ℕ)
     → ((x : A) (at : ℕ) (back : List ℕ) → P x → drop at p ≡ write x ++ back → one at ≡ Ok (x, at + length (write x)))
-    → (xs : List A) (at : ℕ) (back : List ℕ) → All P xs → drop at p ≡ flat_map write xs ++ back → many_at one (length xs) at ≡ Ok (xs, at + length (flat_map write xs))
+    → (xs : List A) (at : ℕ) (back : List ℕ) → All P xs → drop at p ≡ flat_map write xs ++ back
+    → many_at one (length xs) at ≡ Ok (xs, at + length (flat_map write xs))
 unfolding many_at
 many_at-all one write P p reads [] at back all stands = ap (λ (e : ℕ). Ok ([], e)) (omega arith)
 many_at-all one write P p reads (x ∷ xs) at back all stands =
@@ -90,7 +96,9 @@ many_at-all one write P p reads (x ∷ xs) at back all stands =
     rw (first, rest, end) refl
 
 -- a name with its zero
-pub name_at-name_written : (p : List ℕ) (name : List ℕ) (at : ℕ) (back : List ℕ) → IsName name → drop at p ≡ name_written name ++ back → name_at p at ≡ Ok (name, at + length (name_written name))
+pub name_at-name_written : (p : List ℕ) (name : List ℕ) (at : ℕ) (back : List ℕ)
+    → IsName name → drop at p ≡ name_written name ++ back
+    → name_at p at ≡ Ok (name, at + length (name_written name))
 name_at-name_written p name at back is stands =
     let end : at + length name + 1 ≡ at + length (name_written name) = omega (arith, length-append name (0 ∷ [])) in
     name_at-name name at p back is (stands ∙ simp append_assoc) ∙ ap (λ (e : ℕ). Ok (name, e)) end
@@ -104,8 +112,11 @@ pub pairs_tail : {X : Type 0} (R : X → X → Type 0) (x : X) (xs : List X) →
 pairs_tail R x xs p = λ i j d lt inside. p (suc i) (suc j) d (omega (arith, lt)) (omega (arith, inside))
 
 -- type names, none of which stood before
-pub type_names_at-all : (p : List ℕ) (ts : List TypeEntry) (before : List (List ℕ)) (at : ℕ) (back : List ℕ) → All (λ (t : TypeEntry). IsName t.name) ts → All (λ (t : TypeEntry). is_one_of t.name before ≡ false) ts
-    → AllPairs (λ (t u : TypeEntry). t.name ≢ u.name) ts → drop at p ≡ flat_map (λ (t : TypeEntry). name_written t.name) ts ++ back
+pub type_names_at-all : (p : List ℕ) (ts : List TypeEntry) (before : List (List ℕ)) (at : ℕ) (back : List ℕ)
+    → All (λ (t : TypeEntry). IsName t.name) ts
+    → All (λ (t : TypeEntry). is_one_of t.name before ≡ false) ts
+    → AllPairs (λ (t u : TypeEntry). t.name ≢ u.name) ts
+    → drop at p ≡ flat_map (λ (t : TypeEntry). name_written t.name) ts ++ back
     → type_names_at p before (length ts) at ≡ Ok (map (λ (t : TypeEntry). t.name) ts, at + length (flat_map (λ (t : TypeEntry). name_written t.name) ts))
 unfolding type_names_at
 type_names_at-all p [] before at back names new differ stands = ap (λ (e : ℕ). Ok ([], e)) (omega arith)
@@ -124,7 +135,8 @@ type_names_at-all p (t ∷ ts) before at back names new differ stands =
     rw (first, fresh, rest, end) refl
 
 -- a member's two numbers
-pub member_at-member_written : (order : Order) (c : Catalogue) (p : List ℕ) (m : MemberEntry) (at : ℕ) (back : List ℕ) → MemberFits c m → drop at p ≡ member_written order m ++ back
+pub member_at-member_written : (order : Order) (c : Catalogue) (p : List ℕ) (m : MemberEntry) (at : ℕ) (back : List ℕ)
+    → MemberFits c m → drop at p ≡ member_written order m ++ back
     → member_at order (length c.types) (length c.names) p at ≡ Ok (m, at + length (member_written order m))
 unfolding member_at
 member_at-member_written order c p m at back fits stands =
@@ -138,8 +150,11 @@ member_at-member_written order c p m at back fits stands =
     rw (first, second, end) refl
 
 -- structs, none of a type that stood before
-pub structs_at-all : (order : Order) (c : Catalogue) (p : List ℕ) (ss : List StructEntry) (before : List ℕ) (at : ℕ) (back : List ℕ) → All (StructFits c) ss → All (λ (s : StructEntry). list_any (λ x. x == s.type_number) before ≡ false) ss
-    → AllPairs (λ (s t : StructEntry). s.type_number ≢ t.type_number) ss → drop at p ≡ flat_map (struct_written order) ss ++ back
+pub structs_at-all : (order : Order) (c : Catalogue) (p : List ℕ) (ss : List StructEntry) (before : List ℕ) (at : ℕ) (back : List ℕ)
+    → All (StructFits c) ss
+    → All (λ (s : StructEntry). list_any (λ x. x == s.type_number) before ≡ false) ss
+    → AllPairs (λ (s t : StructEntry). s.type_number ≢ t.type_number) ss
+    → drop at p ≡ flat_map (struct_written order) ss ++ back
     → structs_at order (length c.types) (length c.names) p before (length ss) at ≡ Ok (ss, at + length (flat_map (struct_written order) ss))
 unfolding structs_at
 structs_at-all order c p [] before at back fit new differ stands = ap (λ (e : ℕ). Ok ([], e)) (omega arith)
@@ -169,12 +184,15 @@ structs_at-all order c p (s ∷ ss) before at back fit new differ stands =
     rw (number, fresh, count, all-members, rest, end) refl
 
 -- the types of their names and lengths
-type_entries-types : (ts : List TypeEntry) → type_entries (map (λ (t : TypeEntry). t.name) ts) (map (λ (t : TypeEntry). t.length) ts) ≡ ts
+type_entries-types : (ts : List TypeEntry)
+    → type_entries (map (λ (t : TypeEntry). t.name) ts) (map (λ (t : TypeEntry). t.length) ts) ≡ ts
 type_entries-types [] = refl
 type_entries-types (t ∷ ts) = ap (λ (us : List TypeEntry). t ∷ us) (type_entries-types ts)
 
 -- the lengths of types
-many_at-lengths : (order : Order) (p : List ℕ) (ts : List TypeEntry) (at : ℕ) (back : List ℕ) → All (λ (t : TypeEntry). t.length < 2 ^ 16) ts → drop at p ≡ flat_map (λ (t : TypeEntry). bytes_of order 2 t.length) ts ++ back
+many_at-lengths : (order : Order) (p : List ℕ) (ts : List TypeEntry) (at : ℕ) (back : List ℕ)
+    → All (λ (t : TypeEntry). t.length < 2 ^ 16) ts
+    → drop at p ≡ flat_map (λ (t : TypeEntry). bytes_of order 2 t.length) ts ++ back
     → many_at (count_at order 2 p) (length ts) at ≡ Ok (map (λ (t : TypeEntry). t.length) ts, at + length (flat_map (λ (t : TypeEntry). bytes_of order 2 t.length) ts))
 unfolding many_at
 many_at-lengths order p [] at back fit stands = ap (λ (e : ℕ). Ok ([], e)) (omega arith)
@@ -192,12 +210,14 @@ many_at-lengths order p (t ∷ ts) at back fit stands =
     rw (first, rest, end) refl
 
 -- the pieces of a payload, one behind another
-regroup : (a b n ns bt ty tc ts bl tl ls bs st sc ss rest : List ℕ) → (a ++ b ++ n ++ ns) ++ bt ++ (ty ++ tc ++ ts) ++ bl ++ (tl ++ ls) ++ bs ++ (st ++ sc ++ ss) ++ rest
+regroup : (a b n ns bt ty tc ts bl tl ls bs st sc ss rest : List ℕ)
+    → (a ++ b ++ n ++ ns) ++ bt ++ (ty ++ tc ++ ts) ++ bl ++ (tl ++ ls) ++ bs ++ (st ++ sc ++ ss) ++ rest
     ≡ a ++ (b ++ (n ++ (ns ++ (bt ++ (ty ++ (tc ++ (ts ++ (bl ++ (tl ++ (ls ++ (bs ++ (st ++ (sc ++ (ss ++ rest))))))))))))))
 regroup a b n ns bt ty tc ts bl tl ls bs st sc ss rest = simp append_assoc
 
 -- a payload by the grammar reads as its catalogue
-pub catalogue_of-IsPayload : (order : Order) (c : Catalogue) (p : List ℕ) → IsPayload order c p → catalogue_of order p ≡ Ok c
+pub catalogue_of-IsPayload : (order : Order) (c : Catalogue) (p : List ℕ)
+    → IsPayload order c p → catalogue_of order p ≡ Ok c
 unfolding catalogue_of
 catalogue_of-IsPayload order c p f =
     let is = f.is_catalogue in
@@ -256,7 +276,8 @@ catalogue_of-IsPayload order c p f =
     rw (tag-1, tag-2, count-1, all-names, tag-3, count-2, all-types, types-number, tag-4, all-lengths, tag-5, count-3, all-structs, type_entries-types c.types) refl
 
 -- the payload of a catalogue is one by the grammar
-IsPayload-catalogue_written : (order : Order) (c : Catalogue) → IsCatalogue c → IsPayload order c (catalogue_written order c)
+IsPayload-catalogue_written : (order : Order) (c : Catalogue)
+    → IsCatalogue c → IsPayload order c (catalogue_written order c)
 unfolding catalogue_written
 IsPayload-catalogue_written order c is = record {
   is_catalogue = is;
@@ -274,5 +295,6 @@ IsPayload-catalogue_written order c is = record {
     pieces n a t b l d s = simp (append_assoc, append-nil)
 
 -- a catalogue that is written is read again
-pub catalogue_of-catalogue_written : (order : Order) (c : Catalogue) → IsCatalogue c → catalogue_of order (catalogue_written order c) ≡ Ok c
+pub catalogue_of-catalogue_written : (order : Order) (c : Catalogue)
+    → IsCatalogue c → catalogue_of order (catalogue_written order c) ≡ Ok c
 catalogue_of-catalogue_written order c is = catalogue_of-IsPayload order c (catalogue_written order c) (IsPayload-catalogue_written order c is)

@@ -27,7 +27,8 @@ IsByte b = b < 256
 
 -- ---- what an answer that is Ok says of its parts
 
-bind_ok : {A B : Type 0} (r : Result A SdnaFault) (f : A → Result B SdnaFault) (y : B) → (r >>= f) ≡ Ok y → (x : A) × (r ≡ Ok x) × (f x ≡ Ok y)
+bind_ok : {A B : Type 0} (r : Result A SdnaFault) (f : A → Result B SdnaFault) (y : B)
+    → (r >>= f) ≡ Ok y → (x : A) × (r ≡ Ok x) × (f x ≡ Ok y)
 bind_ok (Ok x) f y e = (x, refl, e)
 bind_ok {A} {B} (Err z) f y e = absurd (let e' : ◌≡◌ {A = Result B SdnaFault} (Err z) (Ok y) = e in cc)
 
@@ -46,13 +47,15 @@ all_drop zero xs all = all
 all_drop (suc n) [] all = all
 all_drop (suc n) (x ∷ xs) all = all_drop n xs (All-tail (λ b. b < 256) x xs all)
 
-count_lt : (order : Order) (n : ℕ) (p : List ℕ) (at : ℕ) (v : ℕ × ℕ) → All (λ b. b < 256) p → count_at order n p at ≡ Ok v → v.0 < 256 ^ n
+count_lt : (order : Order) (n : ℕ) (p : List ℕ) (at : ℕ) (v : ℕ × ℕ)
+    → All (λ b. b < 256) p → count_at order n p at ≡ Ok v → v.0 < 256 ^ n
 unfolding count_at
 count_lt order n p at v all e =
     let same : (number_at order p at n, at + n) ≡ v = if_ok (nat_lt (length p) (at + n)) _ (number_at order p at n, at + n) v e in
     subst (λ (x : ℕ × ℕ). x.0 < 256 ^ n) same (number_of-lt order n (drop at p) (all_drop at p all))
 
-index_lt : (order : Order) (n : ℕ) (p : List ℕ) (at : ℕ) (v : ℕ × ℕ) → All (λ b. b < 256) p → index_at order n p at ≡ Ok v → (v.0 < n) × (v.0 < 2 ^ 16)
+index_lt : (order : Order) (n : ℕ) (p : List ℕ) (at : ℕ) (v : ℕ × ℕ)
+    → All (λ b. b < 256) p → index_at order n p at ≡ Ok v → (v.0 < n) × (v.0 < 2 ^ 16)
 unfolding index_at
 index_lt order n p at v all e =
     let first = bind_ok (count_at order 2 p at) _ v e in
@@ -87,7 +90,9 @@ name_ok p at v e = go (nat_lt (position_or_len (λ b. b == 0) (drop at p)) (leng
 
 -- ---- many things
 
-many_all : {A : Type 0} (one : ℕ → Reading A) (P : A → Type 0) → ((at : ℕ) (v : A × ℕ) → one at ≡ Ok v → P v.0) → (n at : ℕ) (v : List A × ℕ) → many_at one n at ≡ Ok v → All P v.0 × (length v.0 ≡ n)
+many_all : {A : Type 0} (one : ℕ → Reading A) (P : A → Type 0)
+    → ((at : ℕ) (v : A × ℕ) → one at ≡ Ok v → P v.0) → (n at : ℕ) (v : List A × ℕ) → many_at one n at ≡ Ok v
+    → All P v.0 × (length v.0 ≡ n)
 unfolding many_at
 many_all {A} one P holds zero at v e = subst (λ (x : List A × ℕ). All P x.0 × (length x.0 ≡ 0)) (ok_same ([], at) v e) ((λ k d lt. absurd (omega (arith, lt))), refl)
 many_all {A} one P holds (suc n) at v e =
@@ -117,7 +122,8 @@ pub record AreTypeNames (before : List (List ℕ)) (n : ℕ) (names : List (List
   pub new : All (λ (x : List ℕ). is_one_of x before ≡ false) names
   pub differ : AllPairs (λ (x y : List ℕ). x ≢ y) names
 
-type_names_ok : (p : List ℕ) (n : ℕ) (before : List (List ℕ)) (at : ℕ) (v : List (List ℕ) × ℕ) → type_names_at p before n at ≡ Ok v → AreTypeNames before n v.0
+type_names_ok : (p : List ℕ) (n : ℕ) (before : List (List ℕ)) (at : ℕ) (v : List (List ℕ) × ℕ)
+    → type_names_at p before n at ≡ Ok v → AreTypeNames before n v.0
 unfolding type_names_at
 type_names_ok p zero before at v e =
     subst (λ (x : List (List ℕ) × ℕ). AreTypeNames before 0 x.0) (ok_same ([], at) v e)
@@ -141,7 +147,9 @@ type_names_ok p (suc n) before at v e =
 
 -- ---- structs
 
-member_ok : (order : Order) (c : Catalogue) (types names : ℕ) (p : List ℕ) (at : ℕ) (v : MemberEntry × ℕ) → types ≡ length c.types → names ≡ length c.names → All (λ b. b < 256) p → member_at order types names p at ≡ Ok v → MemberFits c v.0
+member_ok : (order : Order) (c : Catalogue) (types names : ℕ) (p : List ℕ) (at : ℕ) (v : MemberEntry × ℕ)
+    → types ≡ length c.types → names ≡ length c.names → All (λ b. b < 256) p
+    → member_at order types names p at ≡ Ok v → MemberFits c v.0
 unfolding member_at
 member_ok order c types names p at v et en all e =
     let first = bind_ok (index_at order types p at) _ v e in
@@ -158,7 +166,8 @@ pub record AreStructs (c : Catalogue) (before : List ℕ) (n : ℕ) (structs : L
   pub new : All (λ (s : StructEntry). list_any (λ x. x == s.type_number) before ≡ false) structs
   pub differ : AllPairs (λ (s t : StructEntry). s.type_number ≢ t.type_number) structs
 
-structs_ok : (order : Order) (c : Catalogue) (types names : ℕ) (p : List ℕ) (n : ℕ) (before : List ℕ) (at : ℕ) (v : List StructEntry × ℕ) → types ≡ length c.types → names ≡ length c.names → All (λ b. b < 256) p
+structs_ok : (order : Order) (c : Catalogue) (types names : ℕ) (p : List ℕ) (n : ℕ) (before : List ℕ) (at : ℕ) (v : List StructEntry × ℕ)
+    → types ≡ length c.types → names ≡ length c.names → All (λ b. b < 256) p
     → structs_at order types names p before n at ≡ Ok v → AreStructs c before n v.0
 unfolding structs_at
 structs_ok order c types names p zero before at v et en all e =
@@ -189,22 +198,27 @@ structs_ok order c types names p (suc n) before at v et en all e =
 
 -- ---- types of names and lengths
 
-entries_len : (names : List (List ℕ)) (lengths : List ℕ) → length names ≡ length lengths → length (type_entries names lengths) ≡ length names
+entries_len : (names : List (List ℕ)) (lengths : List ℕ)
+    → length names ≡ length lengths → length (type_entries names lengths) ≡ length names
 entries_len [] ls e = refl
 entries_len (x ∷ xs) [] e = absurd (omega (arith, e))
 entries_len (x ∷ xs) (l ∷ ls) e = let ih = entries_len xs ls (omega (arith, e)) in omega (arith, ih)
 
-entries_names : (P : List ℕ → Type 0) (names : List (List ℕ)) (lengths : List ℕ) → All P names → All (λ (t : TypeEntry). P t.name) (type_entries names lengths)
+entries_names : (P : List ℕ → Type 0) (names : List (List ℕ)) (lengths : List ℕ)
+    → All P names → All (λ (t : TypeEntry). P t.name) (type_entries names lengths)
 entries_names P [] ls all = λ k d lt. absurd (omega (arith, lt))
 entries_names P (x ∷ xs) [] all = λ k d lt. absurd (omega (arith, lt))
 entries_names P (x ∷ xs) (l ∷ ls) all = All-cons (λ (t : TypeEntry). P t.name) (record { name = x; length = l }) (type_entries xs ls) (All-head P x xs all) (entries_names P xs ls (All-tail P x xs all))
 
-entries_lengths : (P : ℕ → Type 0) (names : List (List ℕ)) (lengths : List ℕ) → All P lengths → All (λ (t : TypeEntry). P t.length) (type_entries names lengths)
+entries_lengths : (P : ℕ → Type 0) (names : List (List ℕ)) (lengths : List ℕ)
+    → All P lengths → All (λ (t : TypeEntry). P t.length) (type_entries names lengths)
 entries_lengths P [] ls all = λ k d lt. absurd (omega (arith, lt))
 entries_lengths P (x ∷ xs) [] all = λ k d lt. absurd (omega (arith, lt))
 entries_lengths P (x ∷ xs) (l ∷ ls) all = All-cons (λ (t : TypeEntry). P t.length) (record { name = x; length = l }) (type_entries xs ls) (All-head P l ls all) (entries_lengths P xs ls (All-tail P l ls all))
 
-entries_differ : (names : List (List ℕ)) (lengths : List ℕ) → AllPairs (λ (x y : List ℕ). x ≢ y) names → AllPairs (λ (t u : TypeEntry). t.name ≢ u.name) (type_entries names lengths)
+entries_differ : (names : List (List ℕ)) (lengths : List ℕ)
+    → AllPairs (λ (x y : List ℕ). x ≢ y) names
+    → AllPairs (λ (t u : TypeEntry). t.name ≢ u.name) (type_entries names lengths)
 entries_differ [] ls p = λ i j d lt inside. absurd (omega (arith, inside))
 entries_differ (x ∷ xs) [] p = λ i j d lt inside. absurd (omega (arith, inside))
 entries_differ (x ∷ xs) (l ∷ ls) p =
@@ -213,7 +227,8 @@ entries_differ (x ∷ xs) (l ∷ ls) p =
 
 -- ---- the parts, and the whole payload
 
-names_ok : (order : Order) (p : List ℕ) (v : List (List ℕ) × ℕ) → All (λ b. b < 256) p → names_at order p ≡ Ok v → All IsName v.0 × (length v.0 < 2 ^ 32)
+names_ok : (order : Order) (p : List ℕ) (v : List (List ℕ) × ℕ)
+    → All (λ b. b < 256) p → names_at order p ≡ Ok v → All IsName v.0 × (length v.0 < 2 ^ 32)
 names_ok order p v all e =
     let tag-1 = bind_ok (tag_at (codes "SDNA") p 0) _ v e in
     let tag-2 = bind_ok (tag_at (codes "NAME") p tag-1.0) _ v tag-1.2 in
@@ -222,19 +237,23 @@ names_ok order p v all e =
     let few = count_lt order 4 p tag-2.0 n.0 all n.1 in
     (names.0, omega (arith, names.1, few))
 
-types_ok : (order : Order) (p : List ℕ) (at : ℕ) (v : List (List ℕ) × ℕ) → All (λ b. b < 256) p → types_at order p at ≡ Ok v → (n : ℕ) × AreTypeNames [] n v.0 × (n < 2 ^ 32)
+types_ok : (order : Order) (p : List ℕ) (at : ℕ) (v : List (List ℕ) × ℕ)
+    → All (λ b. b < 256) p → types_at order p at ≡ Ok v → (n : ℕ) × AreTypeNames [] n v.0 × (n < 2 ^ 32)
 types_ok order p at v all e =
     let tag = bind_ok (tag_at (codes "TYPE") p (aligned_place at)) _ v e in
     let n = bind_ok (count_at order 4 p tag.0) _ v tag.2 in
     let few = count_lt order 4 p tag.0 n.0 all n.1 in
     (n.0.0, type_names_ok p n.0.0 [] n.0.1 v n.2, omega (arith, few))
 
-lengths_ok : (order : Order) (types : ℕ) (p : List ℕ) (at : ℕ) (v : List ℕ × ℕ) → All (λ b. b < 256) p → lengths_at order types p at ≡ Ok v → All (λ n. n < 2 ^ 16) v.0 × (length v.0 ≡ types)
+lengths_ok : (order : Order) (types : ℕ) (p : List ℕ) (at : ℕ) (v : List ℕ × ℕ)
+    → All (λ b. b < 256) p → lengths_at order types p at ≡ Ok v
+    → All (λ n. n < 2 ^ 16) v.0 × (length v.0 ≡ types)
 lengths_ok order types p at v all e =
     let tag = bind_ok (tag_at (codes "TLEN") p (aligned_place at)) _ v e in
     many_all (count_at order 2 p) (λ n. n < 2 ^ 16) (λ i w h. let lt = count_lt order 2 p i w all h in omega (arith, lt)) types tag.0 v tag.2
 
-all_structs_ok : (order : Order) (c : Catalogue) (types names : ℕ) (p : List ℕ) (at : ℕ) (v : List StructEntry × ℕ) → types ≡ length c.types → names ≡ length c.names → All (λ b. b < 256) p
+all_structs_ok : (order : Order) (c : Catalogue) (types names : ℕ) (p : List ℕ) (at : ℕ) (v : List StructEntry × ℕ)
+    → types ≡ length c.types → names ≡ length c.names → All (λ b. b < 256) p
     → all_structs_at order types names p at ≡ Ok v → (n : ℕ) × AreStructs c [] n v.0 × (n < 2 ^ 32)
 all_structs_ok order c types names p at v et en all e =
     let tag = bind_ok (tag_at (codes "STRC") p (aligned_place at)) _ v e in
@@ -243,7 +262,8 @@ all_structs_ok order c types names p at v et en all e =
     (n.0.0, structs_ok order c types names p n.0.0 [] n.0.1 v et en all n.2, omega (arith, few))
 
 -- what a payload of bytes reads as is a catalogue by the grammar
-pub IsCatalogue-catalogue_of : (order : Order) (p : List ℕ) (c : Catalogue) → All (λ b. b < 256) p → catalogue_of order p ≡ Ok c → IsCatalogue c
+pub IsCatalogue-catalogue_of : (order : Order) (p : List ℕ) (c : Catalogue)
+    → All (λ b. b < 256) p → catalogue_of order p ≡ Ok c → IsCatalogue c
 unfolding catalogue_of
 IsCatalogue-catalogue_of order p c all e =
     let names = bind_ok (names_at order p) _ c e in
@@ -270,5 +290,7 @@ IsCatalogue-catalogue_of order p c all e =
     })
 
 -- what was read, written in either order and read again, is the same
-pub catalogue_of-written_again : (order other : Order) (p : List ℕ) (c : Catalogue) → All (λ b. b < 256) p → catalogue_of order p ≡ Ok c → catalogue_of other (catalogue_written other c) ≡ Ok c
+pub catalogue_of-written_again : (order other : Order) (p : List ℕ) (c : Catalogue)
+    → All (λ b. b < 256) p → catalogue_of order p ≡ Ok c
+    → catalogue_of other (catalogue_written other c) ≡ Ok c
 catalogue_of-written_again order other p c all e = catalogue_of-catalogue_written other c (IsCatalogue-catalogue_of order p c all e)

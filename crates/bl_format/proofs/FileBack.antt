@@ -15,7 +15,8 @@ use Rattle.bl_num.proofs.BytesOf.{length-bytes_of}
 use Rattle.bl_format.proofs.HeadBack.{NumbersFit, head_in-fields}
 
 -- a block's spelling is as long as its head and its payload
-pub length-spelling : (h : Header) (x : Head) (text : List ℕ) → IsSpelling h x text → length text ≡ head_size h + x.len
+pub length-spelling : (h : Header) (x : Head) (text : List ℕ)
+    → IsSpelling h x text → length text ≡ head_size h + x.len
 length-spelling h x text s =
     let w = pointer_bytes h.width in
     let a = bytes_of h.order 4 x.len in
@@ -26,7 +27,8 @@ length-spelling h x text s =
     ap length s.text_is ∙ omega (arith, length-append (code ++ a ++ b ++ c ++ d) s.payload, length-append (code ++ a ++ b ++ c) d, length-append (code ++ a ++ b) c, length-append (code ++ a) b, length-append code a, s.code_len, s.payload_len, length-bytes_of h.order 4 x.len, length-bytes_of h.order w x.address, length-bytes_of h.order 4 x.index, length-bytes_of h.order 4 x.count)
 
 -- where a block's spelling begins, and the file is long enough, that block begins
-pub step_in-spelling : (h : Header) (x : Head) (text rest : List ℕ) (size : ℕ) → IsSpelling h x text → x.at + length text ≤ size → step_in h (text ++ rest) x.at size ≡ Ok (Block x)
+pub step_in-spelling : (h : Header) (x : Head) (text rest : List ℕ) (size : ℕ)
+    → IsSpelling h x text → x.at + length text ≤ size → step_in h (text ++ rest) x.at size ≡ Ok (Block x)
 unfolding step_in
 step_in-spelling h x text rest size s fits =
     let w = pointer_bytes h.width in
@@ -41,11 +43,11 @@ step_in-spelling h x text rest size s fits =
     let spelled-is : whole ≡ code ++ a ++ b ++ c ++ d ++ more = ap (λ (t : List ℕ). t ++ rest) s.text_is ∙ simp append_assoc in
     let grouped : code ++ a ++ b ++ c ++ d ++ more ≡ code ++ tail = simp append_assoc in
     let numbers : NumbersFit h x = record {
-          len = omega (arith, s.len);
-          address = s.address;
-          index = omega (arith, s.index);
-          count = omega (arith, s.count);
-        } in
+      len = omega (arith, s.len);
+      address = s.address;
+      index = omega (arith, s.index);
+      count = omega (arith, s.count);
+    } in
     let head-is : head_in h whole x.at ≡ x = ap (λ (t : List ℕ). head_in h t x.at) spelled-is ∙ head_in-fields h x code more s.code_len s.means numbers in
     let code-is : take 4 whole ≡ code = ap (take 4) (spelled-is ∙ grouped) ∙ take_at code tail 4 s.code_len in
     let no-end : bytes_eq (take 4 whole) (codes "ENDB") ≡ false = ap (λ (t : List ℕ). bytes_eq t (codes "ENDB")) code-is ∙ s.no_end in
@@ -59,7 +61,9 @@ step_in-spelling h x text rest size s fits =
     rw (four, no-end, head, head-is, len-counts, index-counts, count-counts, all) refl
 
 -- where the spellings of some blocks stand at a place, these blocks stand there
-pub AreBlocks-AreSpellings : (h : Header) (b : List ℕ) (at : ℕ) (xs : List Head) (text tail : List ℕ) → at ≤ length b → drop at b ≡ text ++ tail → AreSpellings h at xs text → AreBlocks h b at xs (at + length text)
+pub AreBlocks-AreSpellings : (h : Header) (b : List ℕ) (at : ℕ) (xs : List Head) (text tail : List ℕ)
+    → at ≤ length b → drop at b ≡ text ++ tail → AreSpellings h at xs text
+    → AreBlocks h b at xs (at + length text)
 AreBlocks-AreSpellings h b at [] text tail inside stands are = omega (arith, ap length are)
 AreBlocks-AreSpellings h b at (x ∷ xs) text tail inside stands are =
     let n : ℕ = head_size h + x.len in
@@ -79,7 +83,8 @@ AreBlocks-AreSpellings h b at (x ∷ xs) text tail inside stands are =
     (here, subst (λ (i : ℕ). AreBlocks h b i xs (at + length text)) place (subst (λ (e : ℕ). AreBlocks h b (at + n) xs e) end rest))
 
 -- where `ENDB` stands, the file ends
-end_back : (h : Header) (rest : List ℕ) (at size : ℕ) → at + 4 ≤ size → step_in h (codes "ENDB" ++ rest) at size ≡ Ok End
+end_back : (h : Header) (rest : List ℕ) (at size : ℕ)
+    → at + 4 ≤ size → step_in h (codes "ENDB" ++ rest) at size ≡ Ok End
 unfolding step_in
 end_back h rest at size inside = rw (le-ltb size (at + 4) inside) refl
 

@@ -28,7 +28,7 @@ pub record NumbersFit (h : Header) (x : Head) : Type 0 where
 pub head_in-fields : (h : Header) (x : Head) (code rest : List ℕ)
     → length code ≡ 4 → code_meant code ≡ x.code → NumbersFit h x
     → head_in h (code ++ bytes_of h.order 4 x.len ++ bytes_of h.order (pointer_bytes h.width) x.address
-      ++ bytes_of h.order 4 x.index ++ bytes_of h.order 4 x.count ++ rest) x.at ≡ x
+    ++ bytes_of h.order 4 x.index ++ bytes_of h.order 4 x.count ++ rest) x.at ≡ x
 unfolding head_in
 head_in-fields h x code rest four means fits =
     let w = pointer_bytes h.width in
@@ -43,18 +43,18 @@ head_in-fields h x code rest four means fits =
     let tail : List ℕ = a ++ (b ++ (c ++ (d ++ rest))) in
     let grouped : text ≡ code ++ tail = simp append_assoc in
     let code-is : code_meant (take 4 text) ≡ x.code =
-          ap (λ (t : List ℕ). code_meant (take 4 t)) grouped ∙ ap code_meant (take_at code tail 4 four) ∙ means in
+    ap (λ (t : List ℕ). code_meant (take 4 t)) grouped ∙ ap code_meant (take_at code tail 4 four) ∙ means in
     let at-8 : length (code ++ a) ≡ 8 = omega (arith, length-append code a, four, la) in
     let at-8w : length (code ++ a ++ b) ≡ 8 + w = omega (arith, length-append (code ++ a) b, at-8, lb) in
     let at-12w : length (code ++ a ++ b ++ c) ≡ 12 + w = omega (arith, length-append (code ++ a ++ b) c, at-8w, lc) in
     let len-is : number_at h.order text 4 4 ≡ x.len =
-          number_at-bytes_of h.order 4 x.len 4 code (b ++ (c ++ (d ++ rest))) text (simp append_assoc) four fits.len in
+    number_at-bytes_of h.order 4 x.len 4 code (b ++ (c ++ (d ++ rest))) text (simp append_assoc) four fits.len in
     let address-is : number_at h.order text 8 w ≡ x.address =
-          number_at-bytes_of h.order w x.address 8 (code ++ a) (c ++ (d ++ rest)) text (simp append_assoc) at-8 fits.address in
+    number_at-bytes_of h.order w x.address 8 (code ++ a) (c ++ (d ++ rest)) text (simp append_assoc) at-8 fits.address in
     let index-is : number_at h.order text (8 + w) 4 ≡ x.index =
-          number_at-bytes_of h.order 4 x.index (8 + w) (code ++ a ++ b) (d ++ rest) text (simp append_assoc) at-8w fits.index in
+    number_at-bytes_of h.order 4 x.index (8 + w) (code ++ a ++ b) (d ++ rest) text (simp append_assoc) at-8w fits.index in
     let count-is : number_at h.order text (12 + w) 4 ≡ x.count =
-          number_at-bytes_of h.order 4 x.count (12 + w) (code ++ a ++ b ++ c) rest text (simp append_assoc) at-12w fits.count in
+    number_at-bytes_of h.order 4 x.count (12 + w) (code ++ a ++ b ++ c) rest text (simp append_assoc) at-12w fits.count in
     λ i. record { code = code-is i; len = len-is i; address = address-is i; index = index-is i; count = count-is i; at = x.at }
 
 -- a head that can be written: its code reads back, and its numbers fit

@@ -14,7 +14,9 @@ fold_max-le a [] = omega arith
 fold_max-le a (x ∷ xs) = omega (arith, fold_max-le (max a x) xs)
 
 -- two ways of giving a struct's leaves that agree on the struct in a member give the member the same leaves
-member_same : (p q : ℕ → List NamedLeaf) (c : Catalogue) (w : Width) (s k : ℕ) → ((t : ℕ) → inner_struct c s k ≡ Some t → p t ≡ q t) → member_leaves p c w s k ≡ member_leaves q c w s k
+member_same : (p q : ℕ → List NamedLeaf) (c : Catalogue) (w : Width) (s k : ℕ)
+    → ((t : ℕ) → inner_struct c s k ≡ Some t → p t ≡ q t)
+    → member_leaves p c w s k ≡ member_leaves q c w s k
 unfolding member_leaves
 member_same p q c w s k h = go (inner_struct c s k) refl
   where
@@ -22,7 +24,8 @@ member_same p q c w s k h = go (inner_struct c s k) refl
     go None e = rw e refl
     go (Some t) e = rw (e, h t e) refl
 
-members_same : (p q : ℕ → List NamedLeaf) (f : ℕ → ℕ) (c : Catalogue) (w : Width) (s a n : ℕ) (ks : List ℕ) → ((t : ℕ) → f t < n → p t ≡ q t) → fold max a (map f (filter_map (inner_struct c s) ks)) < n
+members_same : (p q : ℕ → List NamedLeaf) (f : ℕ → ℕ) (c : Catalogue) (w : Width) (s a n : ℕ) (ks : List ℕ)
+    → ((t : ℕ) → f t < n → p t ≡ q t) → fold max a (map f (filter_map (inner_struct c s) ks)) < n
     → flat_map (member_leaves p c w s) ks ≡ flat_map (member_leaves q c w s) ks
 members_same p q f c w s a n [] agree lt = refl
 members_same p q f c w s a n (k ∷ ks) agree lt = go (inner_struct c s k) refl (λ a' lt'. members_same p q f c w s a' n ks agree lt')
@@ -35,7 +38,8 @@ members_same p q f c w s a n (k ∷ ks) agree lt = go (inner_struct c s k) refl 
         rw (member_same p q c w s k (λ u e'. let x : Some t ≡ Some u = sym e ∙ e' in let y : t ≡ u = cc in rw (← y) (agree t (omega (arith, fold_max-le (max a (f t)) (map f (filter_map (inner_struct c s) ks)))))), rest (max a (f t)) lt') refl
 
 -- one level more changes nothing
-pub leaves_within-suc : (n : ℕ) (c : Catalogue) (w : Width) (s : ℕ) → nesting_within n c s < n → leaves_within n c w s ≡ leaves_within (suc n) c w s
+pub leaves_within-suc : (n : ℕ) (c : Catalogue) (w : Width) (s : ℕ)
+    → nesting_within n c s < n → leaves_within n c w s ≡ leaves_within (suc n) c w s
 unfolding leaves_within nesting_within
 leaves_within-suc zero c w s lt = absurd (omega arith)
 leaves_within-suc (suc n) c w s lt = members_same (leaves_within n c w) (leaves_within (suc n) c w) (nesting_within n c) c w s 0 n (numbers_below (length (struct_entry c s).members)) (λ t h. leaves_within-suc n c w t h) (omega arith)

@@ -1,4 +1,6 @@
--- What a value is under one naming of pointers follows from what it is under another.
+-- Values don't look at what pointers name: a value carried over while addresses name one sort of thing is, with
+-- each of these replaced by another, the value carried over while addresses name the other. So one definition of
+-- values serves nodes, entries and addresses of an output.
 use Rattle.std.proofs.Common.{◌≡◌, ℕ, Bool, true, false, cond, List, Option, Some, None, refl}
 use Rattle.std.specs.Prelude.{nat_lt, ◌&&◌, ◌==◌}
 use Rattle.bl_num.specs.declared.number.Order.{Order}
@@ -8,17 +10,20 @@ use Rattle.bl_format.specs.Layout.{NamedLeaf}
 use Rattle.bl_format.specs.Graph.{Value, Number, Pattern, Points, Opaque, Naming, value_by, leaf_bytes, leaf_value}
 use Rattle.bl_selection.specs.Fate.{zero_of_kind, zero_of, converted_value, kept_count, same_type, source_leaf, value_from, carried_value}
 
+-- a value with what its pointer names replaced
 abbrev pub map_value : {P Q : Type 0} → (P → Q) → Value P → Value Q
 map_value f (Number z) = Number z
 map_value f (Pattern b) = Pattern b
 map_value f (Points to) = Points (f to)
 map_value f (Opaque b) = Opaque b
 
-map_value-cond : {P Q : Type 0} (f : P → Q) (b : Bool) (x y : Value P) → map_value f (cond b x y) ≡ cond b (map_value f x) (map_value f y)
+map_value-cond : {P Q : Type 0} (f : P → Q) (b : Bool) (x y : Value P)
+    → map_value f (cond b x y) ≡ cond b (map_value f x) (map_value f y)
 map_value-cond f true x y = refl
 map_value-cond f false x y = refl
 
-map_value-zero_of_kind : {P Q : Type 0} (f : P → Q) (null : P) (k : Kind) (n : ℕ) → map_value f (zero_of_kind null k n) ≡ zero_of_kind (f null) k n
+map_value-zero_of_kind : {P Q : Type 0} (f : P → Q) (null : P) (k : Kind) (n : ℕ)
+    → map_value f (zero_of_kind null k n) ≡ zero_of_kind (f null) k n
 map_value-zero_of_kind f null (kinds.Whole w) n = refl
 map_value-zero_of_kind f null (kinds.Bits b) n = refl
 map_value-zero_of_kind f null (kinds.Pointer depth t) n = refl
@@ -39,6 +44,7 @@ map_value-value_from f null names order bytes None y k = map_value-zero_of_kind 
 map_value-value_from f null names order bytes (Some x) y k =
     rw (map_value-cond f (nat_lt k (kept_count x y)) (converted_value (same_type x y && x.size == y.size) (zero_of null y) x.kind y.kind (value_by x.kind names order (leaf_bytes x bytes k))) (zero_of null y), map_value-zero_of_kind f null y.kind y.size, map_value-converted_value f (same_type x y && x.size == y.size) (zero_of null y) x.kind y.kind names order (leaf_bytes x bytes k), map_value-zero_of_kind f null y.kind y.size) refl
 
+-- what pointers name can be replaced before a value is carried over, or after
 pub map_value-carried_value : {P Q : Type 0} (f : P → Q) (null : P) (names : Naming P) (order : Order) (xs : List NamedLeaf) (bytes : List ℕ) (y : NamedLeaf) (k : ℕ)
     → map_value f (carried_value null names order xs bytes y k) ≡ carried_value (f null) (λ a. f (names a)) order xs bytes y k
 unfolding carried_value
