@@ -9,3 +9,6 @@ mod shown;
 pub use bl_commands::{Ending, FileFault, Lack, Quantity};
 pub use endings::{block_ending, head_ending, layout_ending, sdna_ending};
 pub use printed::{fault_line, status_of, summary_line};
+
+#[cfg(test)]
+mod tests;
