@@ -1,3 +1,4 @@
+pub mod BlocksOf
 pub mod CatalogueBack
 pub mod CatalogueRead
 pub mod Closure
