@@ -7,3 +7,4 @@ pub mod HeadBack
 pub mod HeaderBack
 pub mod Nesting
 pub mod OneReading
+pub mod StepBack
