@@ -29,3 +29,73 @@ pub fn all_blocks(alloc: Global, header: &Header, bytes: &[u8]) -> Result<Vec<He
     }
     Err(BlockFault::TooManyBlocks(MAX_BLOCKS + 1))
 }
+
+#[cfg(test)]
+mod tests {
+    use super::*;
+    use bl_num::{Order, Width};
+
+    const LITTLE: Header = Header {
+        width: Width::Four,
+        order: Order::Little,
+        version: 279,
+    };
+
+    const BIG: Header = Header {
+        width: Width::Four,
+        order: Order::Big,
+        version: 279,
+    };
+
+    #[test]
+    fn finds_faults(rt: HostRuntime) {
+        for (bytes, want) in [
+            (b"BLENDER_v279END".as_slice(), BlockFault::Truncated(12)),
+            (
+                b"BLENDER_v279TEST\x00\x00\x00\x00".as_slice(),
+                BlockFault::Truncated(12),
+            ),
+            (
+                b"BLENDER_v279TEST\x00\x00\x00\x80\x01\x00\x00\x00\xff\xff\xff\xff\x01\x00\x00\x00".as_slice(),
+                BlockFault::NegativeLength(12),
+            ),
+            (
+                b"BLENDER_v279TEST\x01\x00\x00\x00\x01\x00\x00\x00\xff\xff\xff\xff\xff\xff\xff\xff".as_slice(),
+                BlockFault::NegativeIndex(12),
+            ),
+            (
+                b"BLENDER_v279TEST\x01\x00\x00\x00\x01\x00\x00\x00\x01\x00\x00\x00\xff\xff\xff\xff".as_slice(),
+                BlockFault::NegativeCount(12),
+            ),
+            (
+                b"BLENDER_v279TEST\x01\x00\x00\x00\x01\x00\x00\x00\x01\x00\x00\x00\x01\x00\x00\x00".as_slice(),
+                BlockFault::Truncated(12),
+            ),
+            (
+                b"BLENDER_v279TEST\x00\x00\x00\x00\x01\x00\x00\x00\x01\x00\x00\x00\x01\x00\x00\x00EN".as_slice(),
+                BlockFault::Truncated(32),
+            ),
+        ] {
+            assert!(rt; bytes.len() >= HEADER_SIZE);
+            assert_eq!(rt; all_blocks(rt.alloc(), &LITTLE, bytes).err(), Some(want));
+        }
+    }
+
+    #[test]
+    fn reads_blocks(rt: HostRuntime) -> Result<(), BlockFault> {
+        let bytes = b"BLENDER_V279\0\0OB\0\0\0\x03\x12\x34\x56\x78\0\0\0\x05\0\0\0\x01abcENDBrest";
+        let object = Head {
+            code: *b"OB\0\0",
+            len: 3,
+            address: 0x1234_5678,
+            index: 5,
+            count: 1,
+            at: 12,
+        };
+        assert_eq!(rt;
+            all_blocks(rt.alloc(), &BIG, bytes)?.as_slice(),
+            [object].as_slice()
+        );
+        Ok(())
+    }
+}

@@ -7,7 +7,16 @@ use bl_format::{BlockFault, Head, Header, Step};
 use bl_num::{Order, Width, read_whole, write_whole};
 use byteorder::{BigEndian, ByteOrder, LittleEndian};
 
+// A head has a code, the payload's length, an address, the struct's number and a count.
 const CODE_SIZE: usize = 4;
+
+const NUMBER_SIZE: usize = 4;
+
+const LEN_AT: usize = CODE_SIZE;
+
+const ADDRESS_AT: usize = LEN_AT + NUMBER_SIZE;
+
+const END: [u8; 4] = *b"ENDB";
 
 // The least number of 32 bits that is negative.
 const SIGN: u32 = 0x8000_0000;
@@ -16,7 +25,7 @@ const SIGN: u32 = 0x8000_0000;
 pub fn head_size(header: &Header) -> usize
     ensures { result ≡ head_size header.now }
 {
-    16 + pointer_size(header.width)
+    ADDRESS_AT + pointer_size(header.width) + 2 * NUMBER_SIZE
 }
 
 /// What begins at the place `at` of a file of `size` bytes. The window begins there too, and holds
@@ -39,8 +48,9 @@ pub fn next_block(header: &Header, window: &[u8], at: u64, size: u64) -> Result<
     checked_head(header, head_in(header, window, at), size)
 }
 
-/// Writes a block's head, with the zeros of a code of two letters first where the highest byte of
-/// a number comes first.
+/// Writes a block's head. Its code is one that four bytes mean, so not two zeros and then two other
+/// bytes; a code of two letters is written with its zeros first in a file whose numbers have their
+/// highest byte first.
 pub fn write_head(header: &Header, head: &Head, dst: &mut [u8])
     requires room { length dst.old ≡ head_size header.now }
     requires code { code_meant head.now.code ≡ head.now.code }
@@ -57,9 +67,9 @@ pub fn write_head(header: &Header, head: &Head, dst: &mut [u8])
         ≡ Ok (Step.Block (record head.now { at = at })) }
 {
     let (code, rest) = dst.split_at_mut(CODE_SIZE);
-    let (len, rest) = rest.split_at_mut(4);
+    let (len, rest) = rest.split_at_mut(NUMBER_SIZE);
     let (address, rest) = rest.split_at_mut(pointer_size(header.width));
-    let (index, count) = rest.split_at_mut(4);
+    let (index, count) = rest.split_at_mut(NUMBER_SIZE);
     code.copy_from_slice(&code_written(header.order, head.code));
     write_whole(header.order, head.len, len);
     write_whole(header.order, head.address, address);
@@ -76,12 +86,12 @@ fn pointer_size(width: Width) -> usize
     }
 }
 
-// The four bytes that end a file.
+// Whether the bytes begin with the code that ends a file.
 fn is_end(bytes: &[u8]) -> bool
     requires { CODE_SIZE ≤ length bytes.now }
     ensures { result ≡ bytes_eq (take 4 bytes.now) (codes "ENDB") }
 {
-    &bytes[..CODE_SIZE] == b"ENDB".as_slice()
+    &bytes[..CODE_SIZE] == END.as_slice()
 }
 
 // The head with which some bytes begin.
@@ -91,13 +101,13 @@ fn head_in(header: &Header, bytes: &[u8], at: u64) -> Head
     ensures head { result ≡ head_in header.now bytes.now at }
     ensures place { result.at ≡ at }
 {
-    let width = pointer_size(header.width);
+    let index_at = ADDRESS_AT + pointer_size(header.width);
     Head {
         code: code_in(bytes),
-        len: u64::from(number_in(header.order, &bytes[4..])),
-        address: address_in(header, &bytes[8..]),
-        index: number_in(header.order, &bytes[8 + width..]),
-        count: number_in(header.order, &bytes[12 + width..]),
+        len: u64::from(number_in(header.order, &bytes[LEN_AT..])),
+        address: address_in(header, &bytes[ADDRESS_AT..]),
+        index: number_in(header.order, &bytes[index_at..]),
+        count: number_in(header.order, &bytes[index_at + NUMBER_SIZE..]),
         at,
     }
 }
@@ -117,7 +127,7 @@ fn code_in(bytes: &[u8]) -> [u8; 4]
 
 // The number that the first four bytes spell.
 fn number_in(order: Order, bytes: &[u8]) -> u32
-    requires { 4 ≤ length bytes.now }
+    requires { NUMBER_SIZE ≤ length bytes.now }
     ensures { result ≡ number_of order 4 bytes.now }
 {
     match order {
@@ -162,5 +172,39 @@ fn code_written(order: Order, code: [u8; 4]) -> [u8; 4]
     match order {
         Order::Big if is_two_letter => [0, 0, code[0], code[1]],
         _ => code,
+    }
+}
+
+#[cfg(test)]
+mod tests {
+    use super::*;
+
+    const HEADER: Header = Header {
+        width: Width::Eight,
+        order: Order::Big,
+        version: 279,
+    };
+
+    #[test]
+    fn writes_and_reads_heads(rt: HostRuntime) {
+        let head = Head {
+            code: *b"OB\0\0",
+            len: 3,
+            address: 0x1234_5678,
+            index: 5,
+            count: 1,
+            at: 40,
+        };
+        let mut bytes = [0; 24];
+        write_head(&HEADER, &head, &mut bytes);
+        let want = b"\0\0OB\0\0\0\x03\0\0\0\0\x12\x34\x56\x78\0\0\0\x05\0\0\0\x01";
+        assert_eq!(rt; bytes, *want);
+        assert_eq!(rt; head_size(&HEADER), bytes.len());
+        assert_eq!(rt; next_block(&HEADER, &bytes, 40, 67), Ok(Step::Block(head)));
+        assert_eq!(rt;
+            next_block(&HEADER, &bytes, 40, 66),
+            Err(BlockFault::Truncated(40))
+        );
+        assert_eq!(rt; next_block(&HEADER, b"ENDB", 40, 44), Ok(Step::End));
     }
 }

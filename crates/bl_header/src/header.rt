@@ -137,3 +137,46 @@ fn order_mark(order: Order) -> u8
         Order::Big => b'V',
     }
 }
+
+#[cfg(test)]
+mod tests {
+    use super::*;
+
+    const OLD: Header = Header {
+        width: Width::Four,
+        order: Order::Big,
+        version: 250,
+    };
+
+    const NEW: Header = Header {
+        width: Width::Eight,
+        order: Order::Little,
+        version: 405,
+    };
+
+    #[test]
+    fn reads_headers(rt: HostRuntime) {
+        for (bytes, want) in [
+            (b"BLENDER_V250".as_slice(), Ok(OLD)),
+            (b"BLENDER-v405REND".as_slice(), Ok(NEW)),
+            (b"".as_slice(), Err(HeadFault::BadMagic)),
+            (b"BLENDER-v40".as_slice(), Err(HeadFault::BadMagic)),
+            (b"blender-v405".as_slice(), Err(HeadFault::BadMagic)),
+            (b"\x1f\x8b\x08".as_slice(), Err(HeadFault::Compressed)),
+            (b"\x28\xb5\x2f\xfd".as_slice(), Err(HeadFault::Compressed)),
+            (b"BLENDER+v405".as_slice(), Err(HeadFault::BadMark(7))),
+            (b"BLENDER-x405".as_slice(), Err(HeadFault::BadMark(8))),
+            (b"BLENDER-v4a5".as_slice(), Err(HeadFault::BadMark(10))),
+            (b"BLENDER-v249".as_slice(), Err(HeadFault::BadVersion(249))),
+            (b"BLENDER-v500".as_slice(), Err(HeadFault::BadVersion(500))),
+        ] {
+            assert_eq!(rt; parse_header(bytes), want);
+        }
+    }
+
+    #[test]
+    fn writes_headers(rt: HostRuntime) {
+        assert_eq!(rt; write_header(&OLD), *b"BLENDER_V250");
+        assert_eq!(rt; write_header(&NEW), *b"BLENDER-v405");
+    }
+}
