@@ -1,8 +1,7 @@
-use Rattle.std.proofs.Common.{◌≡◌, ◌≤◌, ℕ, ◌+◌, ◌-◌, List, ◌∷◌, [], ◌++◌, length, take, drop, Result, Ok, Err, ap, subst, ◌∙◌, sym, inr, arith}
+use Rattle.std.proofs.Common.{◌≡◌, ℕ, ◌+◌, ◌-◌, List, ◌∷◌, [], ◌++◌, length, take, drop, Result, Ok, Err, ap, subst, ◌∙◌, sym, inr, arith}
 use Rattle.std.proofs.lemmas.List.{take_rest}
 use Rattle.std.proofs.lemmas.Result.{err_from_is_err_and}
 use Rattle.bl_format.specs.declared.file.Header.{Header}
-use Rattle.bl_format.specs.declared.file.Head.{Head}
 use Rattle.bl_format.specs.declared.file.BlockFault.{BlockFault}
 use Rattle.bl_format.specs.declared.file.Step.{Step}
 use Rattle.bl_format.specs.declared.file.Step.TheVariants.{Block, End}
