@@ -42,7 +42,7 @@ pub fn parse_header(bytes: &[u8]) -> Result<Header, HeadFault>
 }
 
 /// Spells a header as Blender does, with the version in three digits.
-#[tactic(auto, using(bl_format::proofs::HeaderBack::header_back), unfolding(bl_format::specs::Blocks::header_written))]
+#[tactic(auto, unfolding(bl_format::specs::Blocks::header_written))]
 pub fn write_header(header: &Header) -> [u8; 12]
     requires oldest { OLDEST_VERSION ≤ header.now.version }
     requires newest { header.now.version ≤ NEWEST_VERSION }
