@@ -1,7 +1,7 @@
 -- Numbers as bytes in either order, and the whole numbers that their bits mean. A list of bytes is a list
 -- of numbers below 256. The orders are those of a `.blend` file, in which Blender writes numbers as the
 -- machine holds them; that a whole number is carried by its low bits is this project's own rule.
-use Rattle.std.specs.Prelude.{◌≡◌, ◌⊎◌, ℕ, zero, suc, ◌+◌, ◌-◌, ◌*◌, ◌/◌, ◌%◌, ◌^◌, Bool, ◌&&◌, nat_le, if◌then◌else◌, List, [], ◌∷◌, ℤ, pos, negsuc}
+use Rattle.std.specs.Prelude.{◌≡◌, ◌⊎◌, ℕ, ◌-◌, ◌*◌, ◌%◌, ◌^◌, Bool, ◌&&◌, nat_le, if◌then◌else◌, List, ℤ, pos, negsuc}
 use Rattle.byteorder.specs.Endian.{little_number, big_number, little_bytes, big_bytes}
 use Rattle.bl_num.specs.declared.number.Order.{Order}
 use Rattle.bl_num.specs.declared.number.Order.TheVariants.{Little, Big}
