@@ -1,5 +1,5 @@
--- What schema, fates, list and dump print.
-use Rattle.std.specs.Prelude.{ℕ, ◌+◌, ◌*◌, ◌/◌, ◌&&◌, nat_lt, if◌then◌else◌, List, [], ◌∷◌, ◌++◌, length, map, flat_map, Option, Some, None, unwrap_or, codes, decimal}
+-- What schema, fates, list and dump print, read off header, catalogue and graph. This project's own.
+use Rattle.std.specs.Prelude.{ℕ, ◌+◌, ◌*◌, ◌&&◌, nat_lt, if◌then◌else◌, List, [], ◌∷◌, ◌++◌, length, map, flat_map, Option, Some, None, unwrap_or, codes, decimal}
 use Rattle.bl_num.specs.declared.number.Order.{Order}
 use Rattle.bl_num.specs.declared.number.Order.TheVariants.{Little, Big}
 use Rattle.bl_num.specs.declared.number.Width.{Width}
@@ -16,33 +16,44 @@ use Rattle.bl_commands.specs.declared.report.Row.{Row}
 use Rattle.bl_commands.specs.declared.report.Value.{Value as Shown}
 use Rattle.bl_commands.specs.declared.report.Value.TheVariants.{Whole, Bits, Node as ShownNode, Bytes, Chars}
 use Rattle.bl_format.specs.Words.{part, numbers_below}
-use Rattle.bl_format.specs.Layout.{MemberStep, NamedLeaf, named_leaves, struct_numbers, member_numbers, struct_name, struct_named, struct_length, name_at, member_at, type_at, name_of, member_size, member_offset}
+use Rattle.bl_format.specs.Layout.{MemberStep, NamedLeaf, named_leaves, struct_numbers, member_numbers, struct_name, struct_named, struct_length, name_entry, member_entry, type_entry, name_of, member_size, member_offset, struct_number}
 use Rattle.std.specs.List.{enumerate_from}
 use Rattle.bl_format.specs.Graph.{Target, Value, Number, Pattern, Points, Opaque, Fields, Contents, IsBytes, IsNumbers, IsPointers, IsPair, Node, Struct, Raw, path_of}
 use Rattle.bl_selection.specs.Fate.{fate_of, is_char}
-use Rattle.bl_linking.specs.References.{Graph, node_in, node_code, node_struct, node_is_id, nodes_where, field, full_name, text_from, users_of}
+use Rattle.bl_linking.specs.References.{Graph, node_in, node_code, node_struct, node_is_id, nodes_where, value_at_path, full_name, text_from, users_of}
 use Rattle.bl_commands.specs.Texts.{Text, shown_bytes, shown_code, quoted_bytes, line, Piece, row_text}
+use Rattle.std.specs.Int.{div_ceil}
+use Rattle.bl_format.specs.Nodes.{pair_length}
 
 -- ---- schema
 
+-- the word for an order
 abbrev pub order_text : Order → Text
 order_text Little = codes "little"
 order_text Big = codes "big"
 
-abbrev pub member_name : Catalogue → ℕ → ℕ → List ℕ
-member_name c s k = name_at c (member_at c s k).name_number
+-- what stands before the line of a member
+abbrev pub indent : Text
+indent = codes "  "
 
+-- the whole name of member k of struct s
+abbrev pub whole_member_name : Catalogue → ℕ → ℕ → List ℕ
+whole_member_name c s k = name_entry c (member_entry c s k).name_number
+
+-- the line of a member: its offset, its size, its type and its name
 abbrev pub member_line : Catalogue → Width → ℕ → ℕ → Text
 member_line c w s k =
-    let type_name = (type_at c (member_at c s k).type_number).name in
+    let type_name = (type_entry c (member_entry c s k).type_number).name in
     let numbers = decimal (member_offset c w s k) ∷ decimal (member_size c w s k) ∷ [] in
-    codes "  " ++ line (numbers ++ shown_bytes type_name ∷ shown_bytes (member_name c s k) ∷ [])
+    indent ++ line (numbers ++ shown_bytes type_name ∷ shown_bytes (whole_member_name c s k) ∷ [])
 
+-- the lines of a struct: its number, its name and its length, and then its members
 abbrev pub struct_lines : Catalogue → Width → ℕ → Text
 struct_lines c w s =
     line (codes "struct" ∷ decimal s ∷ shown_bytes (struct_name c s) ∷ decimal (struct_length c s) ∷ [])
     ++ flat_map (member_line c w s) (member_numbers c s)
 
+-- what schema prints: a line for the header and the catalogue's counts, and then the structs
 unfoldable pub schema_text : Header → Catalogue → Text
 schema_text h c =
     line (codes "version" ∷ decimal h.version ∷ codes "width" ∷ decimal (pointer_bytes h.width)
@@ -52,6 +63,7 @@ schema_text h c =
 
 -- ---- fates
 
+-- the word for a fate
 abbrev pub fate_text : Fate → Text
 fate_text fates.Kept = codes "kept"
 fate_text fates.Cast = codes "cast"
@@ -60,29 +72,36 @@ fate_text fates.Extended = codes "extended"
 fate_text fates.Fresh = codes "fresh"
 fate_text fates.FloatCast = codes "float-cast"
 
--- the lines of struct t, by the struct of its name in the other catalogue
+-- the lines of struct t: new where the other catalogue has none of its name, and else the fates of its
+-- members
 abbrev pub fate_lines : Catalogue → Width → Catalogue → Width → ℕ → Text
 fate_lines from v to w t = by_source (struct_named from (struct_name to t))
   where
+    name : Text
+    name = shown_bytes (struct_name to t)
+
     fate_line : ℕ → ℕ → Text
-    fate_line s k = codes "  " ++ line (shown_bytes (member_name to t k) ∷ fate_text (fate_of from v s to w t k) ∷ [])
+    fate_line s k =
+        indent ++ line (shown_bytes (whole_member_name to t k) ∷ fate_text (fate_of from v s to w t k) ∷ [])
 
     by_source : Option ℕ → Text
-    by_source None = line (codes "struct" ∷ shown_bytes (struct_name to t) ∷ codes "new" ∷ [])
-    by_source (Some s) =
-        line (codes "struct" ∷ shown_bytes (struct_name to t) ∷ []) ++ flat_map (fate_line s) (member_numbers to t)
+    by_source None = line (codes "struct" ∷ name ∷ codes "new" ∷ [])
+    by_source (Some s) = line (codes "struct" ∷ name ∷ []) ++ flat_map (fate_line s) (member_numbers to t)
 
+-- what fates prints: the lines of all structs of the target's catalogue
 unfoldable pub fates_text : Catalogue → Width → Catalogue → Width → Text
 fates_text from v to w = flat_map (fate_lines from v to w) (struct_numbers to)
 
 -- ---- list
 
+-- the line of ID n: its number, code, full name, struct and users
 abbrev pub id_line : Catalogue → Graph → ℕ → Text
 id_line c g n =
     let x = node_in g n in
-    line ((codes "#" ++ decimal n) ∷ shown_code (node_code x) ∷ quoted_bytes (full_name x) ∷ shown_bytes (node_struct x)
-    ∷ codes "users" ∷ decimal (users_of c g n) ∷ [])
+    line ((codes "#" ++ decimal n) ∷ shown_code (node_code x) ∷ quoted_bytes (full_name x)
+    ∷ shown_bytes (node_struct x) ∷ codes "users" ∷ decimal (users_of c g n) ∷ [])
 
+-- what list prints: the lines of all IDs
 unfoldable pub list_text : Catalogue → Graph → Text
 list_text c g = flat_map (id_line c g) (nodes_where g (node_is_id c))
 
@@ -93,17 +112,21 @@ abbrev pub index_text : Option ℕ → Text
 index_text None = []
 index_text (Some k) = codes "[" ++ decimal k ++ codes "]"
 
--- an element, where the member has a count above 1
-abbrev pub element_told : Catalogue → MemberStep → ℕ → Option ℕ
-element_told c h k = if nat_lt 1 (name_of c h.s h.member).count then Some k else None
+-- the element of a step that a path tells: element k, where the member has more than one
+abbrev pub told_element : Catalogue → MemberStep → ℕ → Option ℕ
+told_element c step k = if nat_lt 1 (name_of c step.s step.member).count then Some k else None
 
--- identifiers joined by `.`; the last one with its own index
+-- a way as text: identifiers joined by `.`, with the elements told; the last one has an index of its own
 abbrev pub way_text : Catalogue → List MemberStep → (MemberStep → Option ℕ) → Text
 way_text c [] last = []
-way_text c (h ∷ []) last = h.identifier ++ index_text (last h)
-way_text c (h ∷ g ∷ hs) last =
-    h.identifier ++ index_text (element_told c h h.element) ++ codes "." ++ way_text c (g ∷ hs) last
+way_text c (step ∷ []) last = step.identifier ++ index_text (last step)
+way_text c (step ∷ next ∷ steps) last =
+    step.identifier
+    ++ index_text (told_element c step step.element)
+    ++ codes "."
+    ++ way_text c (next ∷ steps) last
 
+-- a value as a row shows it, by the kind of its leaf
 abbrev pub shown_value : Kind → Value Target → Shown
 shown_value kind (Number z) = Whole z
 shown_value (kinds.Bits n) (Pattern v) = Bits n v
@@ -111,27 +134,34 @@ shown_value kind (Pattern v) = Bits 0 v
 shown_value kind (Points to) = ShownNode to
 shown_value kind (Opaque bytes) = Bytes bytes
 
-abbrev pub zero_else : Option (Value Target) → Value Target
-zero_else v = unwrap_or v (Opaque [])
+-- a value where there is one, and else no bytes
+abbrev pub value_or_nothing : Option (Value Target) → Value Target
+value_or_nothing v = unwrap_or v (Opaque [])
 
--- paths and values of a leaf: one with the text of a `char` array, else one for each element
+-- the paths and values of a leaf: one with the text of a `char` array of more than one, and else one for
+-- each element
 abbrev pub leaf_rows : Catalogue → Fields → NamedLeaf → List (Text × Shown)
 leaf_rows c fs x =
-    let values = map (λ k. zero_else (field fs (path_of x.way k))) (numbers_below x.count) in
+    let values = map (λ k. value_or_nothing (value_at_path fs (path_of x.way k))) (numbers_below x.count) in
     if is_char x && nat_lt 1 x.count
-    then (way_text c x.way (λ h. None), Chars (text_from values)) ∷ []
+    then (way_text c x.way (λ step. None), Chars (text_from values)) ∷ []
     else map row_at (enumerate_from 0 values)
   where
     row_at : ℕ × Value Target → Text × Shown
-    row_at p = (way_text c x.way (λ h. element_told c h p.0), shown_value x.kind p.1)
+    row_at p = (way_text c x.way (λ step. told_element c step p.0), shown_value x.kind p.1)
 
--- bytes that stand at a place, in pieces of 32
+-- how many bytes of a raw node a row shows
+abbrev pub row_bytes : ℕ
+row_bytes = 32
+
+-- the paths and values of bytes that stand at a place, cut into pieces
 abbrev pub byte_rows : ℕ → List ℕ → List (Text × Shown)
-byte_rows at bytes = map piece (numbers_below ((length bytes + 31) / 32))
+byte_rows at bytes = map piece (numbers_below (div_ceil (length bytes) row_bytes))
   where
     piece : ℕ → Text × Shown
-    piece i = (codes "@" ++ decimal (at + 32 * i), Bytes (part bytes (32 * i) 32))
+    piece i = (codes "@" ++ decimal (at + row_bytes * i), Bytes (part bytes (row_bytes * i) row_bytes))
 
+-- the paths and values of what a raw node holds
 abbrev pub content_rows : RawKind → Contents → List (Text × Shown)
 content_rows kind (IsBytes bytes) = byte_rows 0 bytes
 content_rows (raw.Numbers n) (IsNumbers patterns rest) =
@@ -141,8 +171,9 @@ content_rows kind (IsNumbers patterns rest) = []
 content_rows kind (IsPointers nodes) =
     map (λ (p : ℕ × Target). (index_text (Some p.0), ShownNode p.1)) (enumerate_from 0 nodes)
 content_rows kind (IsPair first second rest) =
-    (codes "first", Bits 4 first) ∷ (codes "second", Bits 4 second) ∷ byte_rows 8 rest
+    (codes "first", Bits 4 first) ∷ (codes "second", Bits 4 second) ∷ byte_rows pair_length rest
 
+-- a row of element e of node n, by a path and a value
 abbrev pub row_of : ℕ → List ℕ → List ℕ → ℕ → Text × Shown → Row
 row_of n code name e p = record {
   node = n;
@@ -156,15 +187,16 @@ row_of n code name e p = record {
 -- the rows of node n
 unfoldable pub node_rows : Catalogue → Width → ℕ → Node → List Row
 node_rows c w n (Struct code name group es) =
-    let xs = named_leaves c w (unwrap_or (struct_named c name) 0) in
+    let xs = named_leaves c w (struct_number c name) in
     let element_rows = λ (p : ℕ × Fields). map (row_of n code name p.0) (flat_map (leaf_rows c p.1) xs) in
     flat_map element_rows (enumerate_from 0 es)
 node_rows c w n (Raw code group count kind contents) =
     map (row_of n code (codes "raw") 0) (content_rows kind contents)
 
+-- the rows of all nodes
 unfoldable pub graph_rows : Catalogue → Width → Graph → List Row
 graph_rows c w g = flat_map (λ (p : ℕ × Node). node_rows c w p.0 p.1) (enumerate_from 0 g)
 
--- what a reporter of a form says of all rows
+-- what dump prints: what a reporter of a form says of all rows
 unfoldable pub dump_text : List Piece → Catalogue → Width → Graph → Text
 dump_text form c w g = flat_map (row_text form) (graph_rows c w g)

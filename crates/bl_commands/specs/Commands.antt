@@ -1,7 +1,7 @@
 -- The command that words spell. Each command is one form of the list at the end, and each option one
 -- switch of its command's list, so commands and options join one by one.
-use Rattle.std.specs.Prelude.{ℕ, ◌-◌, ◌^◌, Bool, true, false, not, ◌&&◌, ◌==◌, nat_le, if◌then◌else◌, List, [], ◌∷◌, length, drop, map, Option, Some, None, option_map, option_and_then, is_some, codes}
-use Rattle.std.specs.List.{list_all, list_any, find, prefix_len, slice_split}
+use Rattle.std.specs.Prelude.{ℕ, nat_eq, ◌-◌, ◌^◌, Bool, true, false, not, ◌&&◌, ◌==◌, nat_le, if◌then◌else◌, List, [], ◌∷◌, length, drop, map, Option, Some, None, option_map, option_and_then, is_some, codes}
+use Rattle.std.specs.List.{list_all, list_any, find, prefix_len, slice_split, ends_with}
 use Rattle.std.specs.Str.{bytes_eq}
 use Rattle.std.specs.Char.{is_ascii_digit}
 use Rattle.bl_num.specs.declared.number.Order.{Order}
@@ -14,9 +14,11 @@ use Rattle.bl_commands.specs.declared.command.ConvertOptions.{ConvertOptions}
 use Rattle.bl_format.specs.Words.{is_one_of, contains}
 use Rattle.bl_format.specs.Members.{is_word_byte, number_in, extents}
 
+-- a word of the command line, as its bytes
 abbrev pub Word : Type 0
 Word = List ℕ
 
+-- the value, where a test holds
 abbrev pub when : {A : Type 0} → Bool → A → Option A
 when b x = if b then Some x else None
 
@@ -27,8 +29,9 @@ abbrev pub is_file_word : Word → Bool
 is_file_word w =
     nat_le 1 (length w) && nat_le (length w) 1023
     && not (contains w 0)
-    && not (bytes_eq (drop (length w - 8) w) (codes ".bl-part"))
+    && not (ends_with nat_eq w (codes ".bl-part"))
 
+-- a full name, which has at least one byte
 abbrev pub is_name_word : Word → Bool
 is_name_word w = nat_le 1 (length w)
 
@@ -70,14 +73,17 @@ is_query_path text = all_paths (slice_split (λ b. b == 45) text)
 
 -- ---- options: two words each, in any order, each at most once
 
+-- words two by two, where none is left over
 abbrev pub pairs : List Word → Option (List (Word × Word))
 pairs [] = Some []
 pairs (name ∷ []) = None
 pairs (name ∷ value ∷ ws) = option_map (λ ps. (name, value) ∷ ps) (pairs ws)
 
+-- the value of the first option of this name
 abbrev pub option_given : Word → List (Word × Word) → Option Word
 option_given name ps = option_map (λ (p : Word × Word). p.1) (find (λ (p : Word × Word). bytes_eq p.0 name) ps)
 
+-- no word stands twice
 abbrev pub each_once : List Word → Bool
 each_once [] = true
 each_once (w ∷ ws) = not (is_one_of w ws) && each_once ws
@@ -87,23 +93,27 @@ pub record Switch : Type 0 where
   pub name : Word
   pub takes : Word → Bool
 
+-- an option of the list, with a value that it takes
 abbrev pub is_known_option : List Switch → Word × Word → Bool
 is_known_option switches p = list_any (λ (s : Switch). bytes_eq s.name p.0 && s.takes p.1) switches
 
--- the options that words give, where all are of a list
+-- the options that words give, where all are of a list and no two have one name
 abbrev pub options_by : List Switch → List Word → Option (List (Word × Word))
 options_by switches ws = option_and_then checked (pairs ws)
   where
     checked : List (Word × Word) → Option (List (Word × Word))
     checked ps = when (list_all (is_known_option switches) ps && each_once (map (λ (p : Word × Word). p.0) ps)) ps
 
+-- how many bytes a pointer is to take
 abbrev pub width_word : Word → Option Width
 width_word w = if bytes_eq w (codes "4") then Some Four else if bytes_eq w (codes "8") then Some Eight else None
 
+-- which byte of a number is to come first
 abbrev pub order_word : Word → Option Order
 order_word w =
     if bytes_eq w (codes "little") then Some Little else if bytes_eq w (codes "big") then Some Big else None
 
+-- the options of `convert`
 abbrev pub convert_switches : List Switch
 convert_switches =
     record { name = codes "--like"; takes = is_file_word }
@@ -111,6 +121,7 @@ convert_switches =
     ∷ record { name = codes "--order"; takes = λ w. is_some (order_word w) }
     ∷ []
 
+-- what the options of `convert` give
 abbrev pub convert_options : List (Word × Word) → ConvertOptions
 convert_options ps = record {
   like = option_given (codes "--like") ps;
@@ -120,12 +131,13 @@ convert_options ps = record {
 
 -- ---- the words behind a command's name
 
-abbrev pub convert_words : List Word → Option Command
-convert_words (input ∷ out ∷ rest) = option_and_then with_options (options_by convert_switches rest)
+-- IN OUT, and options of a list
+abbrev pub convert_words : List Switch → List Word → Option Command
+convert_words switches (input ∷ out ∷ rest) = option_and_then with_options (options_by switches rest)
   where
     with_options : List (Word × Word) → Option Command
     with_options ps = when (is_file_word input && is_file_word out) (Convert input out (convert_options ps))
-convert_words _ = None
+convert_words switches _ = None
 
 -- INTO LIB OUT NAME...
 abbrev pub merge_words : (Word → Word → Word → List Word → Command) → List Word → Option Command
@@ -140,10 +152,12 @@ two_files command (first ∷ second ∷ []) =
     when (is_file_word first && is_file_word second) (command first second)
 two_files command _ = None
 
+-- IN
 abbrev pub one_file : (Word → Command) → List Word → Option Command
 one_file command (input ∷ []) = when (is_file_word input) (command input)
 one_file command _ = None
 
+-- SEED N OUT
 abbrev pub make_words : List Word → Option Command
 make_words (seed ∷ n ∷ out ∷ []) = by_numbers (decimal_word (2 ^ 64 - 1) seed) (decimal_word 1000000 n)
   where
@@ -152,11 +166,13 @@ make_words (seed ∷ n ∷ out ∷ []) = by_numbers (decimal_word (2 ^ 64 - 1) s
     by_numbers _ _ = None
 make_words _ = None
 
+-- IN NAME PATH
 abbrev pub query_words : List Word → Option Command
 query_words (input ∷ name ∷ path ∷ []) =
     when (is_file_word input && is_name_word name && is_query_path path) (Query input name path)
 query_words _ = None
 
+-- IN KIND
 abbrev pub dump_words : List Word → Option Command
 dump_words (input ∷ kind ∷ []) =
     option_and_then (λ k. when (is_file_word input && nat_le 1 k) (Dump input k)) (decimal_word 255 kind)
@@ -169,10 +185,10 @@ pub record Form : Type 0 where
   pub name : Word
   pub reads : List Word → Option Command
 
--- no two have one name
+-- the commands of the finished program; no two have one name
 abbrev pub forms : List Form
 forms =
-    record { name = codes "convert"; reads = convert_words }
+    record { name = codes "convert"; reads = convert_words convert_switches }
     ∷ record { name = codes "append"; reads = merge_words Append }
     ∷ record { name = codes "link"; reads = merge_words Link }
     ∷ record { name = codes "resolve"; reads = two_files Resolve }
@@ -185,8 +201,16 @@ forms =
     ∷ record { name = codes "dump"; reads = dump_words }
     ∷ []
 
--- the command that words spell, or none
-unfoldable pub command_of : List Word → Option Command
-command_of [] = None
-command_of (w ∷ ws) =
-    option_and_then (λ (f : Form). f.reads ws) (find (λ (f : Form). bytes_eq f.name w) forms)
+-- the commands and options that this program has today; the others spell no command
+abbrev pub built_forms : List Form
+built_forms = record { name = codes "convert"; reads = convert_words [] } ∷ []
+
+-- the command that words spell by a table of commands, or none
+unfoldable pub command_by : List Form → List Word → Option Command
+command_by table [] = None
+command_by table (w ∷ ws) =
+    option_and_then (λ (f : Form). f.reads ws) (find (λ (f : Form). bytes_eq f.name w) table)
+
+-- the command that words spell today, or none
+abbrev pub command_of : List Word → Option Command
+command_of words = command_by built_forms words

@@ -24,6 +24,7 @@ use Rattle.bl_commands.specs.declared.ending.Ending.TheVariants as endings
 
 -- ---- numbers and shown bytes
 
+-- a printed text, as its bytes
 abbrev pub Text : Type 0
 Text = List ℕ
 
@@ -36,6 +37,7 @@ abbrev pub hex : ℕ → ℕ → Text
 hex zero v = []
 hex (suc k) v = hex k (v / 16) ++ hex_digit (v % 16) ∷ []
 
+-- a decimal number without leading zeros, with `-` where it is negative
 abbrev pub whole_text : ℤ → Text
 whole_text (pos n) = decimal n
 whole_text (negsuc n) = 45 ∷ decimal (n + 1)
@@ -44,21 +46,25 @@ whole_text (negsuc n) = 45 ∷ decimal (n + 1)
 abbrev pub is_plain : ℕ → Bool
 is_plain b = nat_le 0x20 b && nat_le b 0x7e && not (b == 34) && not (b == 92)
 
+-- itself, or `\x` and its two digits
 abbrev pub shown_byte : ℕ → Text
 shown_byte b = if is_plain b then b ∷ [] else 92 ∷ 120 ∷ hex 2 b
 
+-- how bytes of names, codes and paths are printed
 abbrev pub shown_bytes : List ℕ → Text
 shown_bytes bytes = flat_map shown_byte bytes
 
--- without the zero bytes at the end
+-- a block's code, without the zero bytes at its end
 abbrev pub shown_code : List ℕ → Text
 shown_code code = shown_bytes (take (length code - suffix_len (λ b. b == 0) code) code)
 
 -- ---- pieces joined
 
+-- one blank
 abbrev pub space : Text
 space = codes " "
 
+-- shown bytes between two `"`
 abbrev pub quoted_bytes : List ℕ → Text
 quoted_bytes bytes = 34 ∷ (shown_bytes bytes ++ 34 ∷ [])
 
@@ -66,10 +72,13 @@ quoted_bytes bytes = 34 ∷ (shown_bytes bytes ++ 34 ∷ [])
 abbrev pub joined_by_spaces : List Text → Text
 joined_by_spaces [] = []
 joined_by_spaces (w ∷ []) = w
-joined_by_spaces (w ∷ v ∷ ws) = w ++ space ++ joined_by_spaces (v ∷ ws)
+joined_by_spaces (w ∷ v ∷ ws) = w ++ (32 ∷ joined_by_spaces (v ∷ ws))
 
+-- words with one space between each two, and the byte 0A behind them
 abbrev pub line : List Text → Text
-line words = joined_by_spaces words ++ 10 ∷ []
+line [] = 10 ∷ []
+line (w ∷ []) = w ++ 10 ∷ []
+line (w ∷ v ∷ ws) = w ++ (32 ∷ line (v ∷ ws))
 
 -- what a command that writes puts: the nodes and the bytes of its output
 abbrev pub summary_line : ℕ → ℕ → Text
@@ -77,10 +86,12 @@ summary_line blocks bytes = line (codes "blocks" ∷ decimal blocks ∷ codes "b
 
 -- ---- values and rows
 
+-- `null`, or `#` and the number of a node
 abbrev pub node_text : Option ℕ → Text
 node_text None = codes "null"
 node_text (Some n) = codes "#" ++ decimal n
 
+-- how a row shows a value
 unfoldable pub value_text : Value → Text
 value_text (Whole v) = whole_text v
 value_text (Bits n v) = codes "0x" ++ hex (2 * n) v
@@ -98,6 +109,7 @@ pub data Piece : Type 0 where
   IsPath : Piece
   IsValue : Piece
 
+-- what a piece stands for in a row
 abbrev pub piece_text : Row → Piece → Text
 piece_text row (IsText text) = text
 piece_text row IsNode = decimal row.node
@@ -135,6 +147,7 @@ with_place name place = joined_by_spaces (name ∷ decimal place ∷ [])
 abbrev pub with_member : Text → List ℕ → List ℕ → Text
 with_member name owner member = joined_by_spaces (name ∷ shown_bytes owner ∷ shown_bytes member ∷ [])
 
+-- what a line says of a file that is refused
 abbrev pub file_fault_text : FileFault → Text
 file_fault_text faults.Compressed = codes "Compressed"
 file_fault_text faults.BadMagic = codes "BadMagic"
@@ -171,13 +184,18 @@ with_text name text = joined_by_spaces (name ∷ shown_bytes text ∷ [])
 abbrev pub in_file : Text → List ℕ → Text
 in_file name file = joined_by_spaces (name ∷ codes "in" ∷ shown_bytes file ∷ [])
 
+-- a placeholder's full name, and the path of the library's file that doesn't have it
+abbrev pub missing_datablock_text : List ℕ → List ℕ → Text
+missing_datablock_text name path =
+    joined_by_spaces (codes "MissingDatablock" ∷ shown_bytes name ∷ codes "in" ∷ shown_bytes path ∷ [])
+
+-- what a line says of what is missing
 abbrev pub lack_text : Lack → Text
 lack_text (lacks.NoIdStruct file) = in_file (codes "NoIdStruct") file
 lack_text (lacks.NoName file) = in_file (codes "NoName") file
 lack_text (lacks.NoLibraryStruct file) = in_file (codes "NoLibraryStruct") file
 lack_text (lacks.NoDatablock name) = with_text (codes "NoDatablock") name
-lack_text (lacks.MissingDatablock name path) =
-    joined_by_spaces (codes "MissingDatablock" ∷ shown_bytes name ∷ codes "in" ∷ shown_bytes path ∷ [])
+lack_text (lacks.MissingDatablock name path) = missing_datablock_text name path
 lack_text (lacks.NoStruct name) = with_text (codes "NoStruct") name
 lack_text (lacks.BadLibraryPath path) = with_text (codes "BadLibraryPath") path
 lack_text (lacks.NoMember place) = with_place (codes "NoMember") place
@@ -190,6 +208,7 @@ lack_text (lacks.NotStruct place) = with_place (codes "NotStruct") place
 
 -- ---- quantities
 
+-- what has a limit, in words
 abbrev pub quantity_text : Quantity → Text
 quantity_text quantities.InputBytes = codes "input bytes"
 quantity_text quantities.Blocks = codes "blocks"
@@ -205,6 +224,7 @@ quantity_text quantities.FileBytes = codes "file bytes"
 
 -- ---- how a run ends
 
+-- the status of the process
 abbrev pub status_of : Ending → ℕ
 status_of NoCommand = 2
 status_of endings.NoMemory = 3
@@ -223,21 +243,23 @@ fault_line endings.NoMemory = line (codes "out of memory" ∷ [])
 fault_line (Absent file) = line (codes "absent" ∷ shown_bytes file ∷ [])
 fault_line Device = line (codes "device" ∷ [])
 fault_line (BadFile file fault) =
-    line (codes "bad file" ∷ (shown_bytes file ++ codes ":") ∷ file_fault_text fault ∷ [])
+    codes "bad file " ++ (shown_bytes file ++ (codes ": " ++ (file_fault_text fault ++ 10 ∷ [])))
 fault_line (Missing lack) = line (codes "missing" ∷ lack_text lack ∷ [])
 fault_line (FloatCast owner member) =
-    line (codes "float cast" ∷ (shown_bytes owner ++ codes "." ++ shown_bytes member) ∷ [])
+    codes "float cast " ++ (shown_bytes owner ++ (codes "." ++ (shown_bytes member ++ 10 ∷ [])))
 fault_line (PastLimit quantity count) = line (codes "limit" ∷ quantity_text quantity ∷ decimal count ∷ [])
 fault_line Sink = []
 
 -- ---- how the faults of single layers end a run, by the file's shelf name
 
+-- a header that isn't read
 abbrev pub head_ending : List ℕ → HeadFault → Ending
 head_ending file head.Compressed = BadFile file faults.Compressed
 head_ending file head.BadMagic = BadFile file faults.BadMagic
 head_ending file (head.BadMark place) = BadFile file (faults.BadMark place)
 head_ending file (head.BadVersion version) = BadFile file (faults.BadVersion version)
 
+-- blocks that aren't read
 abbrev pub block_ending : List ℕ → BlockFault → Ending
 block_ending file (block.Truncated place) = BadFile file (faults.Truncated place)
 block_ending file (block.NegativeLength place) = BadFile file (faults.NegativeLength place)
@@ -246,6 +268,7 @@ block_ending file (block.NegativeCount place) = BadFile file (faults.NegativeCou
 block_ending file (block.TooManyBlocks count) = PastLimit quantities.Blocks count
 block_ending file block.NoMemory = endings.NoMemory
 
+-- a catalogue that isn't read
 abbrev pub sdna_ending : List ℕ → SdnaFault → Ending
 sdna_ending file (sdna.BadTag place) = BadFile file (faults.BadTag place)
 sdna_ending file (sdna.CutShort place) = BadFile file (faults.CutShort place)
@@ -254,7 +277,7 @@ sdna_ending file (sdna.TwoTypes place) = BadFile file (faults.TwoTypes place)
 sdna_ending file (sdna.TwoStructs place) = BadFile file (faults.TwoStructs place)
 sdna_ending file sdna.NoMemory = endings.NoMemory
 
--- with the names of the struct and the member
+-- a catalogue without a layout, with the names of the struct and the member at fault
 abbrev pub layout_ending : List ℕ → List ℕ → List ℕ → LayoutFault → Ending
 layout_ending file owner member (layout.BadName s k) = BadFile file (faults.BadName owner member)
 layout_ending file owner member (layout.BasicLength s k) = BadFile file (faults.BasicLength owner member)

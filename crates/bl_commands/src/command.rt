@@ -1,9 +1,10 @@
-use bl_num::{Items, Order, Text, Width};
+use crate::Word;
+use bl_num::{Items, Order, Width};
 
 /// What the options of `convert` give; each is there at most once.
 #[derive(Debug, Drop)]
 pub struct ConvertOptions {
-    pub like: Option<Text>,
+    pub like: Option<Word>,
     pub width: Option<Width>,
     pub order: Option<Order>,
 }
@@ -12,52 +13,52 @@ pub struct ConvertOptions {
 #[derive(Debug, Drop)]
 pub enum Command {
     Convert {
-        input: Text,
-        out: Text,
+        input: Word,
+        out: Word,
         options: ConvertOptions,
     },
     Append {
-        into: Text,
-        lib: Text,
-        out: Text,
-        names: Items<Text>,
+        into: Word,
+        lib: Word,
+        out: Word,
+        names: Items<Word>,
     },
     Link {
-        into: Text,
-        lib: Text,
-        out: Text,
-        names: Items<Text>,
+        into: Word,
+        lib: Word,
+        out: Word,
+        names: Items<Word>,
     },
     Resolve {
-        input: Text,
-        out: Text,
+        input: Word,
+        out: Word,
     },
     Recount {
-        input: Text,
-        out: Text,
+        input: Word,
+        out: Word,
     },
     Make {
         seed: u64,
         n: u32,
-        out: Text,
+        out: Word,
     },
     Schema {
-        input: Text,
+        input: Word,
     },
     Fates {
-        input: Text,
-        cat: Text,
+        input: Word,
+        cat: Word,
     },
     List {
-        input: Text,
+        input: Word,
     },
     Query {
-        input: Text,
-        name: Text,
-        path: Text,
+        input: Word,
+        name: Word,
+        path: Word,
     },
     Dump {
-        input: Text,
+        input: Word,
         kind: u8,
     },
 }

@@ -5,8 +5,10 @@ mod command;
 mod ending;
 mod path;
 mod report;
+mod word;
 
 pub use command::{Command, ConvertOptions};
 pub use ending::{Ending, FileFault, Lack, Quantity};
 pub use path::{Part, Path, PathFault, Place, QueryFault};
 pub use report::{Row, Value};
+pub use word::Word;

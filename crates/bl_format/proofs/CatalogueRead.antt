@@ -1,6 +1,8 @@
--- What is read from a payload is a catalogue by the grammar.
+-- What a payload of bytes reads as is a catalogue by the grammar: its counts fit, its numbers are in range, its names
+-- have no zeros, and its types' names and its structs' types differ. So what was read, written and read again is the
+-- same.
 use Rattle.std.proofs.Common.{◌≡◌, ◌≢◌, ℕ, zero, suc, ◌+◌, ◌^◌, ◌<◌, Bool, true, false, not, cond, List, [], ◌∷◌, length, take, drop, Some, None, Result, Ok, Err, refl, sym, subst, ◌∙◌, arith}
-use Rattle.std.specs.Prelude.{◌||◌, All, codes, nat_lt, ◌==◌, slice_index, if◌then◌else◌}
+use Rattle.std.specs.Prelude.{◌||◌, All, codes, nat_lt, ◌==◌, if◌then◌else◌}
 use Rattle.std.specs.List.{slice_index_or, AllPairs, position_or_len, list_any}
 use Rattle.std.specs.Str.{bytes_eq}
 use Rattle.std.proofs.lemmas.List.Elements.{All-head, All-tail, All-cons}
@@ -8,26 +10,25 @@ use Rattle.std.proofs.lemmas.Bool.{ltb-true}
 use Rattle.std.proofs.lemmas.List.Kept.{AllPairs-cons}
 use Rattle.std.proofs.lemmas.Slice.Eq.{bytes_eq-Decides}
 use Rattle.std.proofs.lemmas.Bool.Decides.{Decides-eqb}
-use Rattle.byteorder.specs.Numbers.{big_from-lt, little_from-lt}
+use Rattle.bl_num.proofs.BytesOf.{number_of-lt}
 use Rattle.bl_num.specs.declared.number.Order.{Order}
-use Rattle.bl_num.specs.declared.number.Order.TheVariants.{Little, Big}
-use Rattle.bl_num.specs.Numbers.{number_of}
 use Rattle.bl_format.specs.declared.catalogue.SdnaFault.{SdnaFault}
 use Rattle.bl_format.specs.declared.catalogue.Catalogue.{Catalogue}
 use Rattle.bl_format.specs.declared.catalogue.TypeEntry.{TypeEntry}
 use Rattle.bl_format.specs.declared.catalogue.StructEntry.{StructEntry}
 use Rattle.bl_format.specs.declared.catalogue.MemberEntry.{MemberEntry}
-use Rattle.bl_format.specs.Words.{part, number_at, is_one_of, aligned}
+use Rattle.bl_format.specs.Words.{part, number_at, is_one_of, aligned_place}
 use Rattle.bl_format.specs.declared.catalogue.SdnaFault.TheVariants.{CutShort, TwoTypes, TwoStructs}
-use Rattle.bl_format.proofs.CatalogueBack.{catalogue_back}
-use Rattle.bl_format.specs.Schema.{◌>>=◌, Field, ensure, count_at, index_at, name_by, name_at, many_at, type_names_at, member_at, structs_at, type_entries, names_at, types_at, lengths_at, all_structs_at, catalogue_of, catalogue_written, tag_at, IsName, MemberFits, StructFits, IsCatalogue}
+use Rattle.bl_format.proofs.CatalogueBack.{pairs_head, pairs_tail, catalogue_of-catalogue_written}
+use Rattle.bl_format.specs.Schema.{◌>>=◌, Reading, ensure, count_at, index_at, name_by, name_at, many_at, type_names_at, member_at, structs_at, type_entries, names_at, types_at, lengths_at, all_structs_at, catalogue_of, catalogue_written, tag_at, IsName, MemberFits, StructFits, IsCatalogue}
 
 IsByte : ℕ → Type 0
 IsByte b = b < 256
 
 -- ---- what an answer that is Ok says of its parts
 
-bind_ok : {A B : Type 0} (r : Result A SdnaFault) (f : A → Result B SdnaFault) (y : B) → (r >>= f) ≡ Ok y → (x : A) × (r ≡ Ok x) × (f x ≡ Ok y)
+bind_ok : {A B : Type 0} (r : Result A SdnaFault) (f : A → Result B SdnaFault) (y : B)
+    → (r >>= f) ≡ Ok y → (x : A) × (r ≡ Ok x) × (f x ≡ Ok y)
 bind_ok (Ok x) f y e = (x, refl, e)
 bind_ok {A} {B} (Err z) f y e = absurd (let e' : ◌≡◌ {A = Result B SdnaFault} (Err z) (Ok y) = e in cc)
 
@@ -46,22 +47,15 @@ all_drop zero xs all = all
 all_drop (suc n) [] all = all
 all_drop (suc n) (x ∷ xs) all = all_drop n xs (All-tail (λ b. b < 256) x xs all)
 
-byte_at : (xs : List ℕ) → All (λ b. b < 256) xs → (k : ℕ) → slice_index xs k < 256
-byte_at [] all k = omega arith
-byte_at (x ∷ xs) all zero = All-head (λ b. b < 256) x xs all
-byte_at (x ∷ xs) all (suc k) = byte_at xs (All-tail (λ b. b < 256) x xs all) k
-
-number_lt : (order : Order) (n : ℕ) (xs : List ℕ) → All (λ b. b < 256) xs → number_of order n xs < 256 ^ n
-number_lt Little n xs all = little_from-lt 0 n xs (byte_at xs all)
-number_lt Big n xs all = big_from-lt 0 n xs (byte_at xs all)
-
-count_lt : (order : Order) (n : ℕ) (p : List ℕ) (at : ℕ) (v : ℕ × ℕ) → All (λ b. b < 256) p → count_at order n p at ≡ Ok v → v.0 < 256 ^ n
+count_lt : (order : Order) (n : ℕ) (p : List ℕ) (at : ℕ) (v : ℕ × ℕ)
+    → All (λ b. b < 256) p → count_at order n p at ≡ Ok v → v.0 < 256 ^ n
 unfolding count_at
 count_lt order n p at v all e =
     let same : (number_at order p at n, at + n) ≡ v = if_ok (nat_lt (length p) (at + n)) _ (number_at order p at n, at + n) v e in
-    subst (λ (x : ℕ × ℕ). x.0 < 256 ^ n) same (number_lt order n (drop at p) (all_drop at p all))
+    subst (λ (x : ℕ × ℕ). x.0 < 256 ^ n) same (number_of-lt order n (drop at p) (all_drop at p all))
 
-index_lt : (order : Order) (n : ℕ) (p : List ℕ) (at : ℕ) (v : ℕ × ℕ) → All (λ b. b < 256) p → index_at order n p at ≡ Ok v → (v.0 < n) × (v.0 < 2 ^ 16)
+index_lt : (order : Order) (n : ℕ) (p : List ℕ) (at : ℕ) (v : ℕ × ℕ)
+    → All (λ b. b < 256) p → index_at order n p at ≡ Ok v → (v.0 < n) × (v.0 < 2 ^ 16)
 unfolding index_at
 index_lt order n p at v all e =
     let first = bind_ok (count_at order 2 p at) _ v e in
@@ -96,14 +90,16 @@ name_ok p at v e = go (nat_lt (position_or_len (λ b. b == 0) (drop at p)) (leng
 
 -- ---- many things
 
-many_all : {A : Type 0} (one : ℕ → Field A) (P : A → Type 0) → ((at : ℕ) (v : A × ℕ) → one at ≡ Ok v → P v.0) → (n at : ℕ) (v : List A × ℕ) → many_at one n at ≡ Ok v → All P v.0 × (length v.0 ≡ n)
+many_all : {A : Type 0} (one : ℕ → Reading A) (P : A → Type 0)
+    → ((at : ℕ) (v : A × ℕ) → one at ≡ Ok v → P v.0) → (n at : ℕ) (v : List A × ℕ) → many_at one n at ≡ Ok v
+    → All P v.0 × (length v.0 ≡ n)
 unfolding many_at
-many_all {A} one P holds_struct zero at v e = subst (λ (x : List A × ℕ). All P x.0 × (length x.0 ≡ 0)) (ok_same ([], at) v e) ((λ k d lt. absurd (omega (arith, lt))), refl)
-many_all {A} one P holds_struct (suc n) at v e =
+many_all {A} one P holds zero at v e = subst (λ (x : List A × ℕ). All P x.0 × (length x.0 ≡ 0)) (ok_same ([], at) v e) ((λ k d lt. absurd (omega (arith, lt))), refl)
+many_all {A} one P holds (suc n) at v e =
     let first = bind_ok (one at) _ v e in
     let others = bind_ok (many_at one n first.0.1) _ v first.2 in
-    let ih = many_all one P holds_struct n first.0.1 others.0 others.1 in
-    subst (λ (x : List A × ℕ). All P x.0 × (length x.0 ≡ suc n)) (ok_same (first.0.0 ∷ others.0.0, others.0.1) v others.2) (All-cons P first.0.0 others.0.0 (holds_struct at first.0 first.1) ih.0, omega (arith, ih.1))
+    let ih = many_all one P holds n first.0.1 others.0 others.1 in
+    subst (λ (x : List A × ℕ). All P x.0 × (length x.0 ≡ suc n)) (ok_same (first.0.0 ∷ others.0.0, others.0.1) v others.2) (All-cons P first.0.0 others.0.0 (holds at first.0 first.1) ih.0, omega (arith, ih.1))
 
 or_false : (a b : Bool) → (a || b) ≡ false → (a ≡ false) × (b ≡ false)
 or_false true b e = absurd (let e' : true ≡ false = e in cc)
@@ -126,7 +122,8 @@ pub record AreTypeNames (before : List (List ℕ)) (n : ℕ) (names : List (List
   pub new : All (λ (x : List ℕ). is_one_of x before ≡ false) names
   pub differ : AllPairs (λ (x y : List ℕ). x ≢ y) names
 
-type_names_ok : (p : List ℕ) (n : ℕ) (before : List (List ℕ)) (at : ℕ) (v : List (List ℕ) × ℕ) → type_names_at p before n at ≡ Ok v → AreTypeNames before n v.0
+type_names_ok : (p : List ℕ) (n : ℕ) (before : List (List ℕ)) (at : ℕ) (v : List (List ℕ) × ℕ)
+    → type_names_at p before n at ≡ Ok v → AreTypeNames before n v.0
 unfolding type_names_at
 type_names_ok p zero before at v e =
     subst (λ (x : List (List ℕ) × ℕ). AreTypeNames before 0 x.0) (ok_same ([], at) v e)
@@ -150,7 +147,9 @@ type_names_ok p (suc n) before at v e =
 
 -- ---- structs
 
-member_ok : (order : Order) (c : Catalogue) (types names : ℕ) (p : List ℕ) (at : ℕ) (v : MemberEntry × ℕ) → types ≡ length c.types → names ≡ length c.names → All (λ b. b < 256) p → member_at order types names p at ≡ Ok v → MemberFits c v.0
+member_ok : (order : Order) (c : Catalogue) (types names : ℕ) (p : List ℕ) (at : ℕ) (v : MemberEntry × ℕ)
+    → types ≡ length c.types → names ≡ length c.names → All (λ b. b < 256) p
+    → member_at order types names p at ≡ Ok v → MemberFits c v.0
 unfolding member_at
 member_ok order c types names p at v et en all e =
     let first = bind_ok (index_at order types p at) _ v e in
@@ -167,7 +166,8 @@ pub record AreStructs (c : Catalogue) (before : List ℕ) (n : ℕ) (structs : L
   pub new : All (λ (s : StructEntry). list_any (λ x. x == s.type_number) before ≡ false) structs
   pub differ : AllPairs (λ (s t : StructEntry). s.type_number ≢ t.type_number) structs
 
-structs_ok : (order : Order) (c : Catalogue) (types names : ℕ) (p : List ℕ) (n : ℕ) (before : List ℕ) (at : ℕ) (v : List StructEntry × ℕ) → types ≡ length c.types → names ≡ length c.names → All (λ b. b < 256) p
+structs_ok : (order : Order) (c : Catalogue) (types names : ℕ) (p : List ℕ) (n : ℕ) (before : List ℕ) (at : ℕ) (v : List StructEntry × ℕ)
+    → types ≡ length c.types → names ≡ length c.names → All (λ b. b < 256) p
     → structs_at order types names p before n at ≡ Ok v → AreStructs c before n v.0
 unfolding structs_at
 structs_ok order c types names p zero before at v et en all e =
@@ -198,28 +198,27 @@ structs_ok order c types names p (suc n) before at v et en all e =
 
 -- ---- types of names and lengths
 
-entries_len : (names : List (List ℕ)) (lengths : List ℕ) → length names ≡ length lengths → length (type_entries names lengths) ≡ length names
+entries_len : (names : List (List ℕ)) (lengths : List ℕ)
+    → length names ≡ length lengths → length (type_entries names lengths) ≡ length names
 entries_len [] ls e = refl
 entries_len (x ∷ xs) [] e = absurd (omega (arith, e))
 entries_len (x ∷ xs) (l ∷ ls) e = let ih = entries_len xs ls (omega (arith, e)) in omega (arith, ih)
 
-entries_names : (P : List ℕ → Type 0) (names : List (List ℕ)) (lengths : List ℕ) → All P names → All (λ (t : TypeEntry). P t.name) (type_entries names lengths)
+entries_names : (P : List ℕ → Type 0) (names : List (List ℕ)) (lengths : List ℕ)
+    → All P names → All (λ (t : TypeEntry). P t.name) (type_entries names lengths)
 entries_names P [] ls all = λ k d lt. absurd (omega (arith, lt))
 entries_names P (x ∷ xs) [] all = λ k d lt. absurd (omega (arith, lt))
 entries_names P (x ∷ xs) (l ∷ ls) all = All-cons (λ (t : TypeEntry). P t.name) (record { name = x; length = l }) (type_entries xs ls) (All-head P x xs all) (entries_names P xs ls (All-tail P x xs all))
 
-entries_lengths : (P : ℕ → Type 0) (names : List (List ℕ)) (lengths : List ℕ) → All P lengths → All (λ (t : TypeEntry). P t.length) (type_entries names lengths)
+entries_lengths : (P : ℕ → Type 0) (names : List (List ℕ)) (lengths : List ℕ)
+    → All P lengths → All (λ (t : TypeEntry). P t.length) (type_entries names lengths)
 entries_lengths P [] ls all = λ k d lt. absurd (omega (arith, lt))
 entries_lengths P (x ∷ xs) [] all = λ k d lt. absurd (omega (arith, lt))
 entries_lengths P (x ∷ xs) (l ∷ ls) all = All-cons (λ (t : TypeEntry). P t.length) (record { name = x; length = l }) (type_entries xs ls) (All-head P l ls all) (entries_lengths P xs ls (All-tail P l ls all))
 
-pairs_head : {X : Type 0} (R : X → X → Type 0) (x : X) (xs : List X) → AllPairs R (x ∷ xs) → All (R x) xs
-pairs_head R x xs p = λ k d lt. p 0 (suc k) d (omega arith) (omega (arith, lt))
-
-pairs_tail : {X : Type 0} (R : X → X → Type 0) (x : X) (xs : List X) → AllPairs R (x ∷ xs) → AllPairs R xs
-pairs_tail R x xs p = λ i j d lt inside. p (suc i) (suc j) d (omega (arith, lt)) (omega (arith, inside))
-
-entries_differ : (names : List (List ℕ)) (lengths : List ℕ) → AllPairs (λ (x y : List ℕ). x ≢ y) names → AllPairs (λ (t u : TypeEntry). t.name ≢ u.name) (type_entries names lengths)
+entries_differ : (names : List (List ℕ)) (lengths : List ℕ)
+    → AllPairs (λ (x y : List ℕ). x ≢ y) names
+    → AllPairs (λ (t u : TypeEntry). t.name ≢ u.name) (type_entries names lengths)
 entries_differ [] ls p = λ i j d lt inside. absurd (omega (arith, inside))
 entries_differ (x ∷ xs) [] p = λ i j d lt inside. absurd (omega (arith, inside))
 entries_differ (x ∷ xs) (l ∷ ls) p =
@@ -228,7 +227,8 @@ entries_differ (x ∷ xs) (l ∷ ls) p =
 
 -- ---- the parts, and the whole payload
 
-names_ok : (order : Order) (p : List ℕ) (v : List (List ℕ) × ℕ) → All (λ b. b < 256) p → names_at order p ≡ Ok v → All IsName v.0 × (length v.0 < 2 ^ 32)
+names_ok : (order : Order) (p : List ℕ) (v : List (List ℕ) × ℕ)
+    → All (λ b. b < 256) p → names_at order p ≡ Ok v → All IsName v.0 × (length v.0 < 2 ^ 32)
 names_ok order p v all e =
     let tag-1 = bind_ok (tag_at (codes "SDNA") p 0) _ v e in
     let tag-2 = bind_ok (tag_at (codes "NAME") p tag-1.0) _ v tag-1.2 in
@@ -237,30 +237,35 @@ names_ok order p v all e =
     let few = count_lt order 4 p tag-2.0 n.0 all n.1 in
     (names.0, omega (arith, names.1, few))
 
-types_ok : (order : Order) (p : List ℕ) (at : ℕ) (v : List (List ℕ) × ℕ) → All (λ b. b < 256) p → types_at order p at ≡ Ok v → (n : ℕ) × AreTypeNames [] n v.0 × (n < 2 ^ 32)
+types_ok : (order : Order) (p : List ℕ) (at : ℕ) (v : List (List ℕ) × ℕ)
+    → All (λ b. b < 256) p → types_at order p at ≡ Ok v → (n : ℕ) × AreTypeNames [] n v.0 × (n < 2 ^ 32)
 types_ok order p at v all e =
-    let tag = bind_ok (tag_at (codes "TYPE") p (aligned at)) _ v e in
+    let tag = bind_ok (tag_at (codes "TYPE") p (aligned_place at)) _ v e in
     let n = bind_ok (count_at order 4 p tag.0) _ v tag.2 in
     let few = count_lt order 4 p tag.0 n.0 all n.1 in
     (n.0.0, type_names_ok p n.0.0 [] n.0.1 v n.2, omega (arith, few))
 
-lengths_ok : (order : Order) (types : ℕ) (p : List ℕ) (at : ℕ) (v : List ℕ × ℕ) → All (λ b. b < 256) p → lengths_at order types p at ≡ Ok v → All (λ n. n < 2 ^ 16) v.0 × (length v.0 ≡ types)
+lengths_ok : (order : Order) (types : ℕ) (p : List ℕ) (at : ℕ) (v : List ℕ × ℕ)
+    → All (λ b. b < 256) p → lengths_at order types p at ≡ Ok v
+    → All (λ n. n < 2 ^ 16) v.0 × (length v.0 ≡ types)
 lengths_ok order types p at v all e =
-    let tag = bind_ok (tag_at (codes "TLEN") p (aligned at)) _ v e in
+    let tag = bind_ok (tag_at (codes "TLEN") p (aligned_place at)) _ v e in
     many_all (count_at order 2 p) (λ n. n < 2 ^ 16) (λ i w h. let lt = count_lt order 2 p i w all h in omega (arith, lt)) types tag.0 v tag.2
 
-all_structs_ok : (order : Order) (c : Catalogue) (types names : ℕ) (p : List ℕ) (at : ℕ) (v : List StructEntry × ℕ) → types ≡ length c.types → names ≡ length c.names → All (λ b. b < 256) p
+all_structs_ok : (order : Order) (c : Catalogue) (types names : ℕ) (p : List ℕ) (at : ℕ) (v : List StructEntry × ℕ)
+    → types ≡ length c.types → names ≡ length c.names → All (λ b. b < 256) p
     → all_structs_at order types names p at ≡ Ok v → (n : ℕ) × AreStructs c [] n v.0 × (n < 2 ^ 32)
 all_structs_ok order c types names p at v et en all e =
-    let tag = bind_ok (tag_at (codes "STRC") p (aligned at)) _ v e in
+    let tag = bind_ok (tag_at (codes "STRC") p (aligned_place at)) _ v e in
     let n = bind_ok (count_at order 4 p tag.0) _ v tag.2 in
     let few = count_lt order 4 p tag.0 n.0 all n.1 in
     (n.0.0, structs_ok order c types names p n.0.0 [] n.0.1 v et en all n.2, omega (arith, few))
 
 -- what a payload of bytes reads as is a catalogue by the grammar
-pub read_is_catalogue : (order : Order) (p : List ℕ) (c : Catalogue) → All (λ b. b < 256) p → catalogue_of order p ≡ Ok c → IsCatalogue c
+pub IsCatalogue-catalogue_of : (order : Order) (p : List ℕ) (c : Catalogue)
+    → All (λ b. b < 256) p → catalogue_of order p ≡ Ok c → IsCatalogue c
 unfolding catalogue_of
-read_is_catalogue order p c all e =
+IsCatalogue-catalogue_of order p c all e =
     let names = bind_ok (names_at order p) _ c e in
     let types = bind_ok (types_at order p names.0.1) _ c names.2 in
     let lengths = bind_ok (lengths_at order (length types.0.0) p types.0.1) _ c types.2 in
@@ -285,5 +290,7 @@ read_is_catalogue order p c all e =
     })
 
 -- what was read, written in either order and read again, is the same
-pub read_back : (order other : Order) (p : List ℕ) (c : Catalogue) → All (λ b. b < 256) p → catalogue_of order p ≡ Ok c → catalogue_of other (catalogue_written other c) ≡ Ok c
-read_back order other p c all e = catalogue_back other c (read_is_catalogue order p c all e)
+pub catalogue_of-written_again : (order other : Order) (p : List ℕ) (c : Catalogue)
+    → All (λ b. b < 256) p → catalogue_of order p ≡ Ok c
+    → catalogue_of other (catalogue_written other c) ≡ Ok c
+catalogue_of-written_again order other p c all e = catalogue_of-catalogue_written other c (IsCatalogue-catalogue_of order p c all e)

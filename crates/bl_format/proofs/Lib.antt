@@ -1,3 +1,4 @@
+pub mod BlocksOf
 pub mod CatalogueBack
 pub mod CatalogueRead
 pub mod Closure
@@ -6,3 +7,4 @@ pub mod HeadBack
 pub mod HeaderBack
 pub mod Nesting
 pub mod OneReading
+pub mod StepBack

@@ -1,7 +1,10 @@
--- A file's header and its list of blocks.
+-- A file's header and its list of blocks, as they are read and as they are written; and the grammar of a
+-- file, which says the same without places. The header and the heads are Blender's (`BHead`, `readfile`,
+-- `writefile`). This project's own: the order of the checks, which versions are read, how a code of two
+-- letters is spelled where the highest byte comes first, and the limit on blocks.
 use Rattle.std.specs.Prelude.{◌≡◌, ℕ, zero, suc, ◌+◌, ◌-◌, ◌*◌, ◌/◌, ◌%◌, ◌^◌, ◌<◌, ◌≤◌, Bool, false, not, ◌&&◌, ◌||◌, ◌==◌, nat_le, nat_lt, if◌then◌else◌, List, [], ◌∷◌, ◌++◌, length, take, drop, Option, Some, None, Result, Ok, Err, codes, slice_index}
 use Rattle.std.specs.List.{list_all}
-use Rattle.std.specs.Str.{bytes_eq}
+use Rattle.std.specs.Str.{bytes_eq, byte}
 use Rattle.std.specs.Char.{is_ascii_digit}
 use Rattle.bl_num.specs.declared.number.Order.{Order}
 use Rattle.bl_num.specs.declared.number.Order.TheVariants.{Little, Big}
@@ -17,32 +20,44 @@ use Rattle.bl_format.specs.declared.file.BlockFault.TheVariants.{Truncated, Nega
 use Rattle.bl_format.specs.declared.file.Step.{Step}
 use Rattle.bl_format.specs.declared.file.Step.TheVariants.{Block, End}
 use Rattle.bl_format.specs.Words.{part, number_at}
+pub use Rattle.bl_format.specs.Limits.{first_version, last_version, most_blocks}
 
 -- ---- the header
 
+-- the bytes of a classic header, the one form that is read
+abbrev pub classic_header_size : ℕ
+classic_header_size = 12
+
 -- the bytes of a header
 abbrev pub header_size : Header → ℕ
-header_size h = 12
+header_size h = classic_header_size
 
 -- `_` for pointers of 4 bytes, `-` for pointers of 8
 abbrev pub width_mark : Width → ℕ
-width_mark Four = 95
-width_mark Eight = 45
+width_mark Four = byte "_"
+width_mark Eight = byte "-"
 
 -- `v` for the lowest byte first, `V` for the highest first
 abbrev pub order_mark : Order → ℕ
-order_mark Little = 118
-order_mark Big = 86
+order_mark Little = byte "v"
+order_mark Big = byte "V"
 
+-- a byte is a mark of a width
 abbrev pub is_width_mark : ℕ → Bool
 is_width_mark x = x == width_mark Four || x == width_mark Eight
 
+-- a byte is a mark of an order
 abbrev pub is_order_mark : ℕ → Bool
 is_order_mark x = x == order_mark Little || x == order_mark Big
 
--- the number of three decimal digits
+-- the number of a decimal digit
+abbrev pub digit_value : ℕ → ℕ
+digit_value d = d - byte "0"
+
+-- the number that three decimal digits spell
 abbrev pub digits_value : List ℕ → ℕ
-digits_value ds = 100 * (slice_index ds 0 - 48) + 10 * (slice_index ds 1 - 48) + (slice_index ds 2 - 48)
+digits_value ds =
+    100 * digit_value (slice_index ds 0) + 10 * digit_value (slice_index ds 1) + digit_value (slice_index ds 2)
 
 -- the first place from 7 on whose byte isn't as it should be: two marks and three digits
 abbrev pub bad_mark : List ℕ → Option ℕ
@@ -54,17 +69,18 @@ bad_mark b =
     if not (is_ascii_digit (slice_index b 11)) then Some 11 else
     None
 
--- the header that twelve bytes without a bad mark spell
+-- the header that twelve bytes without a bad mark spell, unless its version isn't read
 abbrev pub marked_header : List ℕ → Result Header HeadFault
 marked_header b =
     let version = digits_value (part b 9 3) in
-    if nat_lt version 250 || nat_lt 499 version then Err (BadVersion version) else
+    if nat_lt version first_version || nat_lt last_version version then Err (BadVersion version) else
     Ok (record {
       width = if slice_index b 7 == width_mark Four then Four else Eight;
       order = if slice_index b 8 == order_mark Little then Little else Big;
       version = version;
     })
 
+-- a bad mark where there is one, and else the header
 abbrev pub unless_bad_mark : Option ℕ → Result Header HeadFault → Result Header HeadFault
 unless_bad_mark (Some at) h = Err (BadMark at)
 unless_bad_mark None h = h
@@ -73,23 +89,24 @@ unless_bad_mark None h = h
 abbrev pub is_compressed : List ℕ → Bool
 is_compressed b = bytes_eq (take 2 b) (0x1f ∷ 0x8b ∷ []) || bytes_eq (take 4 b) (0x28 ∷ 0xb5 ∷ 0x2f ∷ 0xfd ∷ [])
 
--- the header of a file, or the first check that fails
+-- the header of a file, or the first check that fails: compression, the first seven bytes, marks, version
 unfoldable pub header_of : List ℕ → Result Header HeadFault
 header_of b =
     if is_compressed b then Err Compressed else
-    if nat_lt (length b) 12 || not (bytes_eq (take 7 b) (codes "BLENDER")) then Err BadMagic else
+    if nat_lt (length b) classic_header_size || not (bytes_eq (take 7 b) (codes "BLENDER")) then Err BadMagic else
     unless_bad_mark (bad_mark b) (marked_header b)
 
 -- ---- one block
 
--- what the four bytes of a code mean: two letters behind two zeros are a code of two letters
+-- what the four bytes of a code mean: two letters behind two zeros are a code of two letters, and any other
+-- code is itself
 abbrev pub code_meant : List ℕ → List ℕ
 code_meant code =
     if bytes_eq (take 2 code) (0 ∷ 0 ∷ []) && list_all (λ b. not (b == 0)) (drop 2 code)
     then drop 2 code ++ (0 ∷ 0 ∷ [])
     else code
 
--- a code of two letters
+-- a code of two letters: two bytes that aren't zero, and two zeros
 abbrev pub is_two_letter : List ℕ → Bool
 is_two_letter code = list_all (λ b. not (b == 0)) (take 2 code) && bytes_eq (drop 2 code) (0 ∷ 0 ∷ [])
 
@@ -98,15 +115,15 @@ abbrev pub code_written : Order → List ℕ → List ℕ
 code_written Little code = code
 code_written Big code = if is_two_letter code then (0 ∷ 0 ∷ []) ++ take 2 code else code
 
--- the bytes of a block's head
+-- the bytes of a block's head: code, length, old address, struct number and count
 abbrev pub head_size : Header → ℕ
 head_size h = 16 + pointer_bytes h.width
 
--- a signed number of 32 bits is negative
+-- as a signed number of 32 bits it is negative
 abbrev pub is_negative : ℕ → Bool
 is_negative n = nat_le (2 ^ 31) n
 
--- the head with which some bytes begin, that stand at a place
+-- the head with which some bytes begin that stand at a place of the file
 unfoldable pub head_in : Header → List ℕ → ℕ → Head
 head_in h b at =
     let w = pointer_bytes h.width in
@@ -119,7 +136,7 @@ head_in h b at =
       at = at;
     }
 
--- the checks of a head in a file of some size, in their order
+-- a head in a file of some size, or the first check that it fails
 abbrev pub checked_head : Header → Head → ℕ → Result Step BlockFault
 checked_head h x size =
     if is_negative x.len then Err (NegativeLength x.at) else
@@ -128,7 +145,7 @@ checked_head h x size =
     if nat_lt size (x.at + head_size h + x.len) then Err (Truncated x.at) else
     Ok (Block x)
 
--- what begins at a place, by the bytes from there and the size of the file: a block, the end, or a fault
+-- what begins at a place, by the bytes from there on and the size of the file: a block, the end, or a fault
 unfoldable pub step_in : Header → List ℕ → ℕ → ℕ → Result Step BlockFault
 step_in h b at size =
     if nat_lt size (at + 4) then Err (Truncated at) else
@@ -142,15 +159,12 @@ step_at h b at = step_in h (drop at b) at (length b)
 
 -- ---- all blocks
 
--- the most blocks that a file may have before its end
-abbrev pub most_blocks : ℕ
-most_blocks = 4194304
-
+-- the blocks with one before them, where there is no fault
 abbrev pub with_block : Head → Result (List Head) BlockFault → Result (List Head) BlockFault
 with_block x (Ok xs) = Ok (x ∷ xs)
 with_block x (Err fault) = Err fault
 
--- the blocks from a place up to the end, of which at most n may be looked at, or the first check that fails
+-- the blocks from a place up to the end, or the first check that fails; n blocks are too many
 unfoldable pub blocks_within : ℕ → Header → List ℕ → ℕ → Result (List Head) BlockFault
 blocks_within zero h b at = Err (TooManyBlocks (most_blocks + 1))
 blocks_within (suc n) h b at = by_step (step_at h b at) (λ x. blocks_within n h b (at + head_size h + x.len))
@@ -160,24 +174,24 @@ blocks_within (suc n) h b at = by_step (step_at h b at) (λ x. blocks_within n h
     by_step (Ok End) rest = Ok []
     by_step (Ok (Block x)) rest = with_block x (rest x)
 
--- the blocks of a file behind its header, or the first check that fails; one block more than the limit is
--- too many
+-- the blocks of a file behind its header, or the first check that fails
 unfoldable pub blocks_of : Header → List ℕ → Result (List Head) BlockFault
 blocks_of h b = blocks_within (most_blocks + 1) h b (header_size h)
 
 -- these blocks stand one after another, from one place up to another
 abbrev pub AreBlocks : Header → List ℕ → ℕ → List Head → ℕ → Type 0
 AreBlocks h b at [] end = at ≡ end
-AreBlocks h b at (x ∷ xs) end = (step_at h b at ≡ Ok (Block x)) × AreBlocks h b (at + head_size h + x.len) xs end
+AreBlocks h b at (x ∷ xs) end =
+    (step_at h b at ≡ Ok (Block x)) × AreBlocks h b (at + head_size h + x.len) xs end
 
--- the file reads as this header and these blocks
+-- the file reads as this header and these blocks, behind which it ends
 pub record Reads (b : List ℕ) (h : Header) (blocks : List Head) : Type 0 where
   pub header : header_of b ≡ Ok h
   pub end : ℕ
   pub blocks_stand : AreBlocks h b (header_size h) blocks end
   pub ends : step_at h b end ≡ Ok End
 
--- the first failed check behind the longest list of leading blocks
+-- the file has this header, and behind the longest list of leading blocks this check fails first
 pub record Breaks (b : List ℕ) (h : Header) (fault : BlockFault) : Type 0 where
   pub header : header_of b ≡ Ok h
   pub blocks : List Head
@@ -185,7 +199,7 @@ pub record Breaks (b : List ℕ) (h : Header) (fault : BlockFault) : Type 0 wher
   pub blocks_stand : AreBlocks h b (header_size h) blocks end
   pub fails : step_at h b end ≡ Err fault
 
--- one block more than the limit stands behind the header
+-- the file has this header, and one block more than the limit stands behind it
 pub record HasTooManyBlocks (b : List ℕ) (h : Header) : Type 0 where
   pub header : header_of b ≡ Ok h
   pub blocks : List Head
@@ -197,15 +211,27 @@ pub record HasTooManyBlocks (b : List ℕ) (h : Header) : Type 0 where
 
 -- a head's bytes, with its code as it is written
 unfoldable pub head_written : Header → Head → List ℕ
-head_written h x = code_written h.order x.code ++ bytes_of h.order 4 x.len ++ bytes_of h.order (pointer_bytes h.width) x.address ++ bytes_of h.order 4 x.index ++ bytes_of h.order 4 x.count
+head_written h x =
+    code_written h.order x.code
+    ++ bytes_of h.order 4 x.len
+    ++ bytes_of h.order (pointer_bytes h.width) x.address
+    ++ bytes_of h.order 4 x.index
+    ++ bytes_of h.order 4 x.count
 
--- the twelve bytes of a header
+-- the digit of a number below ten
+abbrev pub digit_of : ℕ → ℕ
+digit_of n = byte "0" + n
+
+-- a header's bytes: a word, two marks and three digits
 unfoldable pub header_written : Header → List ℕ
-header_written h = codes "BLENDER" ++ (width_mark h.width ∷ order_mark h.order ∷ (48 + h.version / 100) ∷ (48 + h.version / 10 % 10) ∷ (48 + h.version % 10) ∷ [])
+header_written h =
+    codes "BLENDER"
+    ++ (width_mark h.width ∷ order_mark h.order
+    ∷ digit_of (h.version / 100) ∷ digit_of (h.version / 10 % 10) ∷ digit_of (h.version % 10) ∷ [])
 
--- ---- the grammar of a file, which says the same as `Reads` without places
+-- ---- the grammar of a file
 
--- a number of 32 bits with a sign isn't negative
+-- a number that 32 bits with a sign can hold
 abbrev pub IsCount : ℕ → Type 0
 IsCount n = n < 2 ^ 31
 
@@ -221,7 +247,8 @@ pub record IsSpelling (h : Header) (x : Head) (text : List ℕ) : Type 0 where
   pub index : IsCount x.index
   pub count : IsCount x.count
   pub payload_len : length payload ≡ x.len
-  pub text_is : text ≡ code ++ bytes_of h.order 4 x.len ++ bytes_of h.order (pointer_bytes h.width) x.address ++ bytes_of h.order 4 x.index ++ bytes_of h.order 4 x.count ++ payload
+  pub text_is : text ≡ code ++ bytes_of h.order 4 x.len ++ bytes_of h.order (pointer_bytes h.width) x.address
+      ++ bytes_of h.order 4 x.index ++ bytes_of h.order 4 x.count ++ payload
 
 -- a text is the spellings of some blocks, one after another, from a place on
 abbrev pub AreSpellings : Header → ℕ → List Head → List ℕ → Type 0
@@ -230,9 +257,9 @@ AreSpellings h at (x ∷ xs) text =
     let size = head_size h + x.len in
     (x.at ≡ at) × IsSpelling h x (take size text) × AreSpellings h (at + size) xs (drop size text)
 
--- the header's bytes, the spellings of the blocks, `ENDB`, and any bytes
+-- a file of a header and some blocks: the header's bytes, the blocks' spellings, `ENDB`, and any bytes
 pub record IsFile (b : List ℕ) (h : Header) (blocks : List Head) : Type 0 where
-  pub version : (250 ≤ h.version) × (h.version ≤ 499)
+  pub version : (first_version ≤ h.version) × (h.version ≤ last_version)
   pub spellings : List ℕ
   pub rest : List ℕ
   pub blocks_spelled : AreSpellings h (header_size h) blocks spellings

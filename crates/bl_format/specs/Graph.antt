@@ -1,4 +1,6 @@
--- The graph of a file.
+-- The graph of a file: its nodes with the values that they hold and the nodes that their pointers name,
+-- whatever the addresses, lengths and tails in the bytes. Two files with equal graphs say the same. This
+-- project's own, over the structs of Blender's SDNA.
 use Rattle.std.specs.Prelude.{ℕ, ◌+◌, ◌*◌, ◌/◌, ◌==◌, if◌then◌else◌, List, [], ◌∷◌, length, drop, map, flat_map, Option, Some, None, ℤ}
 use Rattle.bl_num.specs.declared.number.Order.{Order}
 use Rattle.bl_num.specs.declared.number.Width.{Width}
@@ -14,12 +16,12 @@ use Rattle.bl_format.specs.declared.raw.RawKind.TheVariants as raw
 use Rattle.bl_format.specs.declared.raw.View.{View}
 use Rattle.bl_format.specs.Words.{part, numbers_below}
 use Rattle.bl_format.specs.Layout.{MemberStep, NamedLeaf, named_leaves, struct_name, struct_length}
-use Rattle.bl_format.specs.Nodes.{File, payload, group_of, marks, target_of, view_of_type, raw_kind}
+use Rattle.bl_format.specs.Nodes.{File, payload, group_of, marks, target_of, view_of_type, pair_length, raw_kind}
 use Rattle.std.specs.List.{enumerate_from}
 
 -- ---- what a graph is made of
 
--- a whole number, a bit pattern, what a pointer names, or bytes
+-- a value: a whole number, a bit pattern, what a pointer names, or bytes; P is what pointers name
 pub data Value (P : Type 0) : Type 0 where
   Number : (number : ℤ) → Value P
   Pattern : (bits : ℕ) → Value P
@@ -38,11 +40,11 @@ Path = List (List ℕ × ℕ)
 abbrev pub Fields : Type 0
 Fields = List (Path × Value Target)
 
--- contents of a raw node by its kind; numbers and a pair are followed by the bytes behind them
+-- what a raw node holds by its kind; numbers and a pair are followed by the bytes behind them
 pub data Contents : Type 0 where
   IsBytes : (bytes : List ℕ) → Contents
   IsNumbers : (patterns rest : List ℕ) → Contents
-  IsPointers : (nodes : List (Option ℕ)) → Contents
+  IsPointers : (nodes : List Target) → Contents
   IsPair : (first second : ℕ) → (rest : List ℕ) → Contents
 
 -- a struct node has its code, its struct's name, its group and its elements; a raw one its code, group,
@@ -57,59 +59,61 @@ pub data Node : Type 0 where
 abbrev pub Naming : Type 0 → Type 0
 Naming P = ℕ → P
 
--- the value of some bytes of a kind
+-- the value that some bytes have as a leaf of a kind
 abbrev pub value_by : {P : Type 0} → Kind → Naming P → Order → List ℕ → Value P
 value_by (kinds.Whole whole) names order bytes = Number (number_meant whole (number_of order whole.bytes bytes))
 value_by (kinds.Bits n) names order bytes = Pattern (number_of order n bytes)
 value_by (kinds.Pointer depth t) names order bytes = Points (names (number_of order (length bytes) bytes))
 value_by kinds.Opaque names order bytes = Opaque bytes
 
--- the bytes of element k of a slot
+-- the bytes of element k of a leaf, in those of a struct's element
 abbrev pub leaf_bytes : NamedLeaf → List ℕ → ℕ → List ℕ
 leaf_bytes x bytes k = part bytes (x.offset + k * x.size) x.size
 
--- the value of element k of a slot, in the bytes of a struct's element
+-- the value of element k of a leaf, in the bytes of a struct's element
 unfoldable pub leaf_value : {P : Type 0} → Naming P → Order → List ℕ → NamedLeaf → ℕ → Value P
 leaf_value names order bytes x k = value_by x.kind names order (leaf_bytes x bytes k)
 
--- the path of element k of a slot: the last member on the way has element k
+-- the path of element k of a leaf: the last member on the way has element k
 abbrev pub path_of : List MemberStep → ℕ → Path
 path_of [] k = []
-path_of (h ∷ []) k = (h.identifier, k) ∷ []
-path_of (h ∷ g ∷ hs) k = (h.identifier, h.element) ∷ path_of (g ∷ hs) k
+path_of (step ∷ []) k = (step.identifier, k) ∷ []
+path_of (step ∷ next ∷ steps) k = (step.identifier, step.element) ∷ path_of (next ∷ steps) k
 
--- a value of a struct's element beside its slot
+-- a value of a struct's element, with its leaf and the element of that leaf
 pub record Cell : Type 0 where
   pub leaf : NamedLeaf
   pub at : ℕ
   pub value : Value Target
 
--- what a function gives for each slot, by its number, and each of its elements
+-- a cell for each leaf and each of its elements, with the value that a function gives by the leaf's number,
+-- the leaf and the element
 unfoldable pub cells : (ℕ → NamedLeaf → ℕ → Value Target) → List NamedLeaf → List Cell
 cells value xs = flat_map (λ p. map (cell_of p.0 p.1) (numbers_below p.1.count)) (enumerate_from 0 xs)
   where
     cell_of : ℕ → NamedLeaf → ℕ → Cell
     cell_of j x k = record { leaf = x; at = k; value = value j x k }
 
--- the map from path to value
+-- the map from path to value that some cells make
 abbrev pub fields : List Cell → Fields
 fields cs = map (λ (c : Cell). (path_of c.leaf.way c.at, c.value)) cs
 
--- the elements of a node's payload
+-- so many elements of one size, in the bytes of a payload
 abbrev pub elements : List ℕ → ℕ → ℕ → List (List ℕ)
 elements bytes size count = map (λ e. part bytes (e * size) size) (numbers_below count)
 
--- the cells of one element of struct s
+-- the cells of one element of struct s, by its bytes
 abbrev pub struct_cells : Naming Target → Order → Catalogue → Width → ℕ → List ℕ → List Cell
-struct_cells names order c w s bytes = cells (λ j x k. leaf_value names order bytes x k) (named_leaves c w s)
+struct_cells names order c w s bytes =
+    cells (λ j x k. leaf_value names order bytes x k) (named_leaves c w s)
 
 -- ---- raw contents
 
--- as many pieces of n bytes as fit
+-- as many pieces of n bytes as fit, one behind another
 abbrev pub pieces : ℕ → List ℕ → List (List ℕ)
 pieces n bytes = map (λ i. part bytes (i * n) n) (numbers_below (length bytes / n))
 
--- what bytes of a kind hold; what is left behind the last pointer is nothing
+-- what bytes of a kind hold; what is left behind the last pointer isn't in the graph
 unfoldable pub contents_by : RawKind → Naming Target → Form → List ℕ → Contents
 contents_by raw.Bytes names form bytes = IsBytes bytes
 contents_by (raw.Numbers n) names form bytes =
@@ -118,9 +122,9 @@ contents_by raw.Pointers names form bytes =
     let w = pointer_bytes form.width in
     IsPointers (map (λ p. names (number_of form.order w p)) (pieces w bytes))
 contents_by raw.Pair names form bytes =
-    IsPair (number_of form.order 4 bytes) (number_of form.order 4 (drop 4 bytes)) (drop 8 bytes)
+    IsPair (number_of form.order 4 bytes) (number_of form.order 4 (drop 4 bytes)) (drop pair_length bytes)
 
--- the length of such bytes at another width
+-- how long raw bytes of a kind are at another width
 abbrev pub raw_length : RawKind → ℕ → Width → Width → ℕ
 raw_length raw.Bytes len from to = len
 raw_length (raw.Numbers n) len from to = len
@@ -129,7 +133,7 @@ raw_length raw.Pair len from to = len
 
 -- ---- views
 
--- what a pointer cell says of the node that it names
+-- what a value says of the node that it names, as a leaf of a kind
 abbrev pub view_by : Catalogue → Kind → Value Target → List View
 view_by c (kinds.Pointer depth t) (Points (Some n)) = view_list n (view_of_type c depth t)
   where
@@ -138,45 +142,51 @@ view_by c (kinds.Pointer depth t) (Points (Some n)) = view_list n (view_of_type 
     view_list n (Some k) = record { node = n; kind = k } ∷ []
 view_by c k v = []
 
+-- what the pointers among some cells say
 abbrev pub views_of : Catalogue → List Cell → List View
 views_of c cs = flat_map (λ (x : Cell). view_by c x.leaf.kind x.value) cs
 
 -- ---- the graph
 
+-- how a file of this header writes pointers and numbers
 abbrev pub form_of : Header → Form
 form_of h = record { width = h.width; order = h.order }
 
+-- the codes of a file's nodes
 abbrev pub file_codes : File → List (List ℕ)
 file_codes f = map (λ (x : Head). x.code) f.nodes
 
--- what an address means in a node's group
+-- what addresses name in a group of a file
 abbrev pub file_names : File → ℕ → Naming Target
 file_names f g = target_of (marks f) g
 
--- the elements of a struct node
+-- the bytes of each element of a struct node
 abbrev pub node_elements : File → Head → List (List ℕ)
 node_elements f x = elements (payload f.header f.bytes x) (struct_length f.catalogue x.index) x.count
 
--- the cells of each element of node k
+-- the cells of each element of node k, a struct node
 unfoldable pub node_cells : File → ℕ → Head → List (List Cell)
 node_cells f k x =
     let g = group_of (file_codes f) k in
-    map (struct_cells (file_names f g) f.header.order f.catalogue f.header.width x.index) (node_elements f x)
+    let names = file_names f g in
+    map (struct_cells names f.header.order f.catalogue f.header.width x.index) (node_elements f x)
 
--- the views of node k, which a raw node has none of
+-- what the pointers of node k say of the nodes that they name; a raw node says nothing
 abbrev pub node_views : File → ℕ → Head → List View
 node_views f k x = if x.index == 0 then [] else flat_map (views_of f.catalogue) (node_cells f k x)
 
+-- what all pointers of a file say
 unfoldable pub file_views : File → List View
 file_views f = flat_map (λ p. node_views f p.0 p.1) (enumerate_from 0 f.nodes)
 
--- node k, by the views of all nodes
+-- node k, by what all pointers say
 unfoldable pub node_of : File → List View → ℕ → Head → Node
 node_of f views k x =
     let g = group_of (file_codes f) k in
     let kind = raw_kind views x.code x.len k in
+    let bytes = payload f.header f.bytes x in
     if x.index == 0
-    then Raw x.code g x.count kind (contents_by kind (file_names f g) (form_of f.header) (payload f.header f.bytes x))
+    then Raw x.code g x.count kind (contents_by kind (file_names f g) (form_of f.header) bytes)
     else Struct x.code (struct_name f.catalogue x.index) g (map fields (node_cells f k x))
 
 -- the nodes of a file, in order

@@ -11,27 +11,28 @@ pub enum Order {
     Big,
 }
 
-/// How many bytes a pointer takes.
+/// How many bytes a pointer takes in a file.
 #[derive(Clone, Copy, Debug, PartialEq, Eq)]
 pub enum Width {
     Four,
     Eight,
 }
 
+/// How a file writes pointers and numbers.
 #[derive(Clone, Copy, Debug, PartialEq, Eq)]
 pub struct Form {
     pub width: Width,
     pub order: Order,
 }
 
-/// A whole-number type: its length in bytes, and whether it has a sign.
+/// A whole-number type: its length in bytes, which is 1, 2, 4 or 8, and whether it has a sign.
 #[derive(Clone, Copy, Debug, PartialEq, Eq)]
 pub struct Whole {
     pub bytes: u8,
     pub signed: bool,
 }
 
-/// Want of memory.
+/// Want of memory: the one answer that no contract ties to a cause.
 #[derive(Clone, Copy, Debug, PartialEq, Eq)]
 pub struct NoMemory;
 

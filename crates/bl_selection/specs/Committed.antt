@@ -1,4 +1,5 @@
--- What a committed file is, command by command.
+-- What a committed file is: accepted, with a header, a catalogue and a graph that are given, in their
+-- written form; and what convert commits. This project's own.
 use Rattle.std.specs.Prelude.{◌≡◌, ℕ, List, Option, option_map, unwrap_or, IfSome}
 use Rattle.bl_num.specs.declared.number.Order.{Order}
 use Rattle.bl_num.specs.declared.number.Width.{Width}
@@ -10,7 +11,7 @@ use Rattle.bl_format.specs.Rewidth.{rewidth}
 use Rattle.bl_selection.specs.Selection.{rebuilt_graph}
 use Rattle.bl_selection.specs.Written.{written_form}
 
--- the bytes are accepted, and are the one written form of a graph, which they have
+-- the bytes are accepted, have this header, catalogue and graph, and are their one written form
 pub record Stands (b : List ℕ) (h : Header) (c : Catalogue) (g : List Node) : Type 0 where
   pub file : File
   pub accepted : Accepted b file
@@ -21,7 +22,8 @@ pub record Stands (b : List ℕ) (h : Header) (c : Catalogue) (g : List Node) : 
 
 -- ---- convert
 
--- width and order are the options', else IN's; version and catalogue are CAT's, else IN's
+-- the header of a converted file: width and order are the options', else IN's; the version is CAT's, else
+-- IN's
 abbrev pub target_header : File → Option File → Option Width → Option Order → Header
 target_header f like width order = record f.header {
   width = unwrap_or width f.header.width;
@@ -29,26 +31,28 @@ target_header f like width order = record f.header {
   version = (unwrap_or like f).header.version;
 }
 
+-- the catalogue of a converted file: CAT's, else IN's, at the width of the header
 abbrev pub target_catalogue : File → Option File → Option Width → Catalogue
 target_catalogue f like width =
     let from = unwrap_or like f in
     rewidth from.catalogue from.header.width (unwrap_or width f.header.width)
 
--- a file beside IN is there exactly where bytes are, and these are its bytes
-abbrev pub Likewise : Option (List ℕ) → Option File → Type 0
-Likewise bytes file =
+-- bytes that may be given are accepted as a file that is there exactly where they are
+abbrev pub AcceptedIfGiven : Option (List ℕ) → Option File → Type 0
+AcceptedIfGiven bytes file =
     (option_map (λ (f : File). f.bytes) file ≡ bytes) × IfSome file (λ f. Accepted f.bytes f)
 
--- the rebuilt graph in its form
+-- some bytes are those of a rebuilt graph, under a header and a catalogue
 abbrev pub IsRebuilt : File → Header → Catalogue → List ℕ → Type 0
 IsRebuilt f h c new = Stands new h c (rebuilt_graph f h c)
 
--- what convert commits, by IN, CAT, width and order
+-- the bytes that convert commits, by those of IN and of CAT, the width and the order
 pub record IsConverted
     (old : List ℕ) (like : Option (List ℕ)) (width : Option Width) (order : Option Order) (new : List ℕ)
     : Type 0 where
   pub file : File
   pub accepted : Accepted old file
   pub like_file : Option File
-  pub likewise : Likewise like like_file
-  pub stands : IsRebuilt file (target_header file like_file width order) (target_catalogue file like_file width) new
+  pub likewise : AcceptedIfGiven like like_file
+  pub stands : IsRebuilt file (target_header file like_file width order)
+      (target_catalogue file like_file width) new

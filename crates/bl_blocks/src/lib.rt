@@ -1,0 +1,9 @@
+//! The blocks of a `.blend` file: their heads read one by one or all at once, and written.
+#![tactic(auto)]
+
+mod blocks;
+mod head;
+
+pub use bl_format::{BlockFault, Head, Step};
+pub use blocks::{MAX_BLOCKS, all_blocks};
+pub use head::{head_size, next_block, write_head};

@@ -1,0 +1,91 @@
+//! Which command the words of a command line spell.
+#![tactic(auto)]
+
+ghost use Rattle.std.specs.Prelude.{◌≡◌, [], ◌∷◌, map, IfOk};
+ghost use Rattle.std.specs.String.{string_bytes};
+ghost use Rattle.bl_commands.specs.Commands.{is_file_word, convert_words, command_of};
+
+pub use bl_commands::{Command, ConvertOptions, Word};
+use bl_num::NoMemory;
+use std::alloc::Global;
+
+/// The greatest length of a word that names a file, in bytes.
+const LONGEST_FILE_WORD: usize = 1023;
+
+/// Whether a word names a file. A name that ends in `.bl-part` is kept for files that are being
+/// written.
+pub fn is_file_word(word: &str) -> bool
+    ensures { result ≡ is_file_word word.now }
+{
+    let bytes = word.as_bytes();
+    !bytes.is_empty()
+        && bytes.len() <= LONGEST_FILE_WORD
+        && !bytes.contains(&0)
+        && !bytes.ends_with(b".bl-part")
+}
+
+/// The command that the words behind the program's name spell, or none.
+#[tactic(auto, unfolding(bl_commands::specs::Commands::command_by))]
+pub fn command_of(alloc: Global, words: &[String]) -> Result<Option<Command>, NoMemory>
+    ensures { IfOk result (λ command. command ≡ command_of (map string_bytes words.now)) }
+{
+    match words.split_first() {
+        Some((name, rest)) if name.as_str() == "convert" => convert_of(alloc, rest),
+        _ => Ok(None),
+    }
+}
+
+// What the words behind `convert` spell: the names of the input and the output.
+fn convert_of(alloc: Global, words: &[String]) -> Result<Option<Command>, NoMemory>
+    ensures { IfOk result (λ command. command ≡ convert_words [] (map string_bytes words.now)) }
+{
+    match words {
+        [input, out] if is_file_word(input.as_str()) && is_file_word(out.as_str()) => {
+            Ok(Some(Command::Convert {
+                input: Word::from_str(alloc, input.as_str())?,
+                out: Word::from_str(alloc, out.as_str())?,
+                options: ConvertOptions {
+                    like: None,
+                    width: None,
+                    order: None,
+                },
+            }))
+        }
+        _ => Ok(None),
+    }
+}
+
+#[cfg(test)]
+mod tests {
+    use super::*;
+
+    fn command(alloc: Global, words: &[&str]) -> Result<Option<Command>, NoMemory> {
+        let mut owned = Vec::new(alloc);
+        for word in words {
+            owned.push(String::from_str(alloc, word)?)?;
+        }
+        command_of(alloc, &owned)
+    }
+
+    #[test]
+    fn converts(rt: HostRuntime) -> Result<(), NoMemory> {
+        let alloc = rt.alloc();
+        let spelled = command(alloc, &["convert", "a", "b"])?;
+        match &spelled {
+            Some(Command::Convert { input, out, .. }) => {
+                assert_eq!(rt; input.as_str(), "a");
+                assert_eq!(rt; out.as_str(), "b");
+            }
+            _ => assert!(rt; false, "no conversion"),
+        }
+        assert!(rt; command(alloc, &[])?.is_none());
+        assert!(rt; command(alloc, &["convert", "a", "b", "--width", "5"])?.is_none());
+        Ok(())
+    }
+
+    #[test]
+    fn names_files(rt: HostRuntime) {
+        assert!(rt; is_file_word("a.blend"));
+        assert!(rt; !is_file_word("a.blend.bl-part"));
+    }
+}
