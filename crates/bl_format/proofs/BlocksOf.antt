@@ -285,7 +285,7 @@ byte_lt [] all k = omega arith
 byte_lt (x ∷ xs) all zero = All-head (λ y. y < 256) x xs all
 byte_lt (x ∷ xs) all (suc k) = byte_lt xs (All-tail (λ y. y < 256) x xs all) k
 
-number_lt : (order : Order) (n : ℕ) (xs : List ℕ) → All (λ y. y < 256) xs → number_of order n xs < 256 ^ n
+pub number_lt : (order : Order) (n : ℕ) (xs : List ℕ) → All (λ y. y < 256) xs → number_of order n xs < 256 ^ n
 number_lt Little n xs all = little_from-lt 0 n xs (byte_lt xs all)
 number_lt Big n xs all = big_from-lt 0 n xs (byte_lt xs all)
 
