@@ -3,6 +3,7 @@ pub mod CatalogueBack
 pub mod CatalogueRead
 pub mod Closure
 pub mod FileBack
+pub mod FileSpelled
 pub mod HeadBack
 pub mod HeaderBack
 pub mod Nesting

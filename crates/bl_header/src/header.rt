@@ -18,9 +18,11 @@ const ORDER_AT: usize = 8;
 
 const VERSION_AT: usize = 9;
 
-const OLDEST_VERSION: u16 = 250;
+/// The first version of Blender whose files are read, 2.50.
+pub const FIRST_VERSION: u16 = 250;
 
-const NEWEST_VERSION: u16 = 499;
+/// The last version of Blender whose files are read, 4.99.
+pub const LAST_VERSION: u16 = 499;
 
 // The first bytes of a compressed file.
 const GZIP: [u8; 2] = [0x1f, 0x8b];
@@ -44,8 +46,8 @@ pub fn parse_header(bytes: &[u8]) -> Result<Header, HeadFault>
 /// Spells a header as Blender does, with the version in three digits.
 #[tactic(auto, unfolding(bl_format::specs::Blocks::header_written))]
 pub fn write_header(header: &Header) -> [u8; 12]
-    requires oldest { OLDEST_VERSION ≤ header.now.version }
-    requires newest { header.now.version ≤ NEWEST_VERSION }
+    requires first { FIRST_VERSION ≤ header.now.version }
+    requires last { header.now.version ≤ LAST_VERSION }
     ensures written { result ≡ header_written header.now }
     ensures reads_back { (rest : List ℕ) → header_of (result ++ rest) ≡ Ok header.now }
 {
@@ -97,7 +99,7 @@ fn marked_header(bytes: &[u8]) -> Result<Header, HeadFault>
     let tens = digit_at(bytes, VERSION_AT + 1)?;
     let ones = digit_at(bytes, VERSION_AT + 2)?;
     let version = 100 * hundreds + 10 * tens + ones;
-    if version < OLDEST_VERSION || version > NEWEST_VERSION {
+    if version < FIRST_VERSION || version > LAST_VERSION {
         return Err(HeadFault::BadVersion(version));
     }
     Ok(Header {

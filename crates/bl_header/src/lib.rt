@@ -4,4 +4,4 @@
 mod header;
 
 pub use bl_format::{HeadFault, Header};
-pub use header::{HEADER_SIZE, parse_header, write_header};
+pub use header::{FIRST_VERSION, HEADER_SIZE, LAST_VERSION, parse_header, write_header};
