@@ -67,7 +67,7 @@ bytes = refl
 -- ---- lines
 
 summary : summary_line 9 1540 ≡ lines (codes "blocks 9 bytes 1540" ∷ [])
-unfolding digits lines
+unfolding summary_line digits lines
 summary = refl
 
 faults : flat_map fault_line (NoCommand ∷ Absent (codes "b.blend") ∷ head_ending (codes "a") (BadMark 7) ∷ BadFile (codes "a") (Overrun (codes "Object") (codes "_pad[2]")) ∷ Missing (MissingDatablock (codes "OBRig") (codes "b.blend")) ∷ Missing (NotStruct 11) ∷ FloatCast (codes "Mesh") (codes "totco") ∷ PastLimit BlockBytes 2621400000 ∷ [])
