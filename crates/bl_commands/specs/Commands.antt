@@ -206,11 +206,11 @@ abbrev pub built_forms : List Form
 built_forms = record { name = codes "convert"; reads = convert_words [] } ∷ []
 
 -- the command that words spell by a table of commands, or none
-unfoldable pub command_by : List Form → List Word → Option Command
+abbrev pub command_by : List Form → List Word → Option Command
 command_by table [] = None
 command_by table (w ∷ ws) =
     option_and_then (λ (f : Form). f.reads ws) (find (λ (f : Form). bytes_eq f.name w) table)
 
 -- the command that words spell today, or none
-abbrev pub command_of : List Word → Option Command
+unfoldable pub command_of : List Word → Option Command
 command_of words = command_by built_forms words

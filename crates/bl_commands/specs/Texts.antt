@@ -81,7 +81,7 @@ line (w ∷ []) = w ++ 10 ∷ []
 line (w ∷ v ∷ ws) = w ++ (32 ∷ line (v ∷ ws))
 
 -- what a command that writes puts: the nodes and the bytes of its output
-abbrev pub summary_line : ℕ → ℕ → Text
+unfoldable pub summary_line : ℕ → ℕ → Text
 summary_line blocks bytes = line (codes "blocks" ∷ decimal blocks ∷ codes "bytes" ∷ decimal bytes ∷ [])
 
 -- ---- values and rows

@@ -10,6 +10,7 @@ use bl_num::{NoMemory, Text};
 use std::alloc::{AllocError, Global};
 
 /// The line of a command that writes: the nodes of its output, and the length of the whole file.
+#[tactic(auto, unfolding(bl_commands::specs::Texts::summary_line))]
 pub fn summary_line(alloc: Global, blocks: u64, bytes: u64) -> Result<Vec<u8>, NoMemory>
     ensures { IfOk result (λ line. line.items ≡ summary_line blocks bytes) }
 {

@@ -25,7 +25,7 @@ pub fn is_file_word(word: &str) -> bool
 }
 
 /// The command that the words behind the program's name spell, or none.
-#[tactic(auto, unfolding(bl_commands::specs::Commands::command_by))]
+#[tactic(auto, unfolding(bl_commands::specs::Commands::command_of))]
 pub fn command_of(alloc: Global, words: &[String]) -> Result<Option<Command>, NoMemory>
     ensures { IfOk result (λ command. command ≡ command_of (map string_bytes words.now)) }
 {
