@@ -22,7 +22,8 @@ use Rattle.bl_format.specs.declared.file.Step.{Step}
 use Rattle.bl_format.specs.declared.file.Step.TheVariants.{Block, End}
 use Rattle.bl_format.specs.Words.{part, number_at}
 use Rattle.bl_format.specs.Blocks.{header_of, header_written, header_size, is_compressed, width_mark, order_mark, is_width_mark, is_order_mark, digits_value, bad_mark, unless_bad_mark, marked_header, head_size, head_in, checked_head, is_negative, step_in, step_at, AreBlocks, IsSpelling, AreSpellings, IsFile, Reads}
-use Rattle.bl_format.proofs.BlocksOf.{number_lt, step_in-block, block_place, AreBlocks-size}
+use Rattle.bl_num.proofs.BytesOf.{number_of-lt}
+use Rattle.bl_format.proofs.BlocksOf.{step_in-block, block_place, AreBlocks-size}
 
 -- ---- the header
 
@@ -164,7 +165,7 @@ block_spelled h b at x bytes s =
       no_end = found.no_end;
       means = ap (λ (t : Head). t.code) head;
       len = found.len;
-      address = subst (λ (v : ℕ). v < 256 ^ p) (ap (λ (t : Head). t.address) head) (number_lt h.order p (drop 8 w) (All-drop (λ y. y < 256) 8 w all));
+      address = subst (λ (v : ℕ). v < 256 ^ p) (ap (λ (t : Head). t.address) head) (number_of-lt h.order p (drop 8 w) (All-drop (λ y. y < 256) 8 w all));
       index = found.index;
       count = found.count;
       payload_len = length-take x.len (drop (16 + p) w) ∙ omega (arith, long, length-drop (16 + p) w);

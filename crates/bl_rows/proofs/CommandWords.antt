@@ -7,7 +7,7 @@ use Rattle.bl_format.specs.Members.{extents}
 use Rattle.bl_commands.specs.Commands.{is_file_word, decimal_word, is_path, is_query_path, forms, command_by, command_of}
 
 unfoldable words : ℕ
-unfolding command_by decimal_word is_path is_query_path extents
+unfolding command_of decimal_word is_path is_query_path extents
 words = 0
 
 -- ---- the finished program

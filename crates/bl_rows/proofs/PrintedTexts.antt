@@ -95,7 +95,7 @@ values_shown = refl
 -- ---- other lines
 
 summary : summary_line 9 1540 ≡ codes "blocks 9 bytes 1540\n"
-unfolding digits
+unfolding summary_line digits
 summary = refl
 
 fault_lines : flat_map fault_line (NoCommand ∷ Absent (codes "b.blend")
