@@ -1,4 +1,8 @@
-use bl_num::Text;
+ghost use Rattle.std.specs.Prelude.{◌≡◌};
+ghost use Rattle.bl_commands.specs.declared.ending.Ending.TheVariants as endings;
+
+use bl_num::{NoMemory, Text};
+use std::alloc::{AllocError, AllocFailed};
 
 /// Why a file is refused. A place counts bytes from the file's start for a block, and from the
 /// start of the catalogue's payload for a fault in it.
@@ -82,4 +86,28 @@ pub enum Ending {
     PastLimit { quantity: Quantity, count: u64 },
     /// The sink failed.
     Sink,
+}
+
+impl From<AllocError> for Ending {
+    ghost from_gives = { λ _ e. e ≡ endings.NoMemory };
+
+    fn from(_: AllocError) -> Ending {
+        Ending::NoMemory
+    }
+}
+
+impl<T: Drop> From<AllocFailed<T>> for Ending {
+    ghost from_gives = { λ _ e. e ≡ endings.NoMemory };
+
+    fn from(_: AllocFailed<T>) -> Ending {
+        Ending::NoMemory
+    }
+}
+
+impl From<NoMemory> for Ending {
+    ghost from_gives = { λ _ e. e ≡ endings.NoMemory };
+
+    fn from(_: NoMemory) -> Ending {
+        Ending::NoMemory
+    }
 }

@@ -9,3 +9,4 @@ pub mod HeaderBack
 pub mod Nesting
 pub mod OneReading
 pub mod StepBack
+pub mod HeaderFacts

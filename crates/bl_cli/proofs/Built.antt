@@ -1,0 +1,35 @@
+-- The words spell no command but those that are built.
+use Rattle.std.proofs.Common.{◌≡◌, Bool, true, false, cond, List, [], ◌∷◌, ℕ, Option, Some, None, refl, subst}
+use Rattle.std.specs.Prelude.{codes, option_and_then, ◌&&◌}
+use Rattle.std.specs.Str.{bytes_eq}
+use Rattle.bl_commands.specs.declared.command.Command.{Command}
+use Rattle.bl_commands.specs.declared.command.Command.TheVariants.{Convert}
+use Rattle.bl_commands.specs.Commands.{Word, Switch, Form, when, command_of, command_by, convert_words, convert_options, options_by, is_file_word}
+use Rattle.bl_cli.specs.Run.{IsBuilt}
+
+when_built : (test : Bool) (c c' : Command) → IsBuilt c → when test c ≡ Some c' → IsBuilt c'
+when_built true c c' built is = let same : c ≡ c' = cc in subst IsBuilt same built
+when_built false c c' built is = cc
+
+then_built : {A : Type 0} (o : Option A) (f : A → Option Command) (c : Command) → ((a : A) → f a ≡ Some c → IsBuilt c) → option_and_then f o ≡ Some c → IsBuilt c
+then_built None f c goes is = cc
+then_built (Some a) f c goes is = goes a is
+
+convert_built : (switches : List Switch) (ws : List Word) (c : Command) → convert_words switches ws ≡ Some c → IsBuilt c
+convert_built switches [] c is = cc
+convert_built switches (x ∷ []) c is = cc
+convert_built switches (input ∷ out ∷ rest) c is =
+    then_built (options_by switches rest) (λ ps. when (is_file_word input && is_file_word out) (Convert input out (convert_options ps))) c
+    (λ ps. when_built (is_file_word input && is_file_word out) (Convert input out (convert_options ps)) c tt) is
+
+pub command_built : (ws : List Word) (c : Command) → command_of ws ≡ Some c → IsBuilt c
+unfolding command_of
+command_built [] c is = cc
+command_built (w ∷ ws) c is = by_name (bytes_eq (codes "convert") w) is
+  where
+    form : Form
+    form = record { name = codes "convert"; reads = convert_words [] }
+
+    by_name : (b : Bool) → option_and_then (λ (f : Form). f.reads ws) (cond b (Some form) None) ≡ Some c → IsBuilt c
+    by_name true is = convert_built [] ws c is
+    by_name false is = cc

@@ -1,0 +1,7 @@
+pub mod Checks
+pub mod RawOutput
+pub mod Convert
+pub mod Outcome
+pub mod Run
+pub mod Prepared
+pub mod Conversion

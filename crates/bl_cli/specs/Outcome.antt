@@ -1,0 +1,45 @@
+-- What a run does: the first check of its command that gives an ending, or its effect.
+use Rattle.std.specs.Prelude.{ℕ, List, [], length, Option, Some, None, Result, Ok, Err}
+use Rattle.bl_format.specs.Nodes.{nodes_in}
+use Rattle.bl_commands.specs.declared.command.Command.{Command}
+use Rattle.bl_commands.specs.declared.command.Command.TheVariants.{Convert}
+use Rattle.bl_commands.specs.declared.ending.Ending.{Ending}
+use Rattle.bl_commands.specs.declared.ending.Ending.TheVariants.{NoCommand}
+use Rattle.bl_commands.specs.Commands.{command_of}
+use Rattle.bl_commands.specs.Texts.{Text, summary_line}
+use Rattle.bl_shelf.specs.Told.{Held}
+use Rattle.bl_cli.specs.Checks.{first_of}
+use Rattle.bl_cli.specs.RawOutput.{raw_output}
+use Rattle.bl_cli.specs.Convert.{bytes_held, blocks_in, raw_file_in, convert_checks}
+
+-- what a command that writes does: it holds these bytes under the name, and puts the line
+pub record Effect : Type 0 where
+  pub name : List ℕ
+  pub bytes : List ℕ
+  pub line : Text
+
+-- the line of convert on its input's bytes
+abbrev pub convert_line : List ℕ → Text
+convert_line b = summary_line (length (nodes_in (blocks_in b))) (length (raw_output b (raw_file_in b)))
+
+-- the effect of convert on its input's bytes, under the word OUT
+abbrev pub convert_effect : List ℕ → List ℕ → Effect
+convert_effect b out = record { name = out; bytes = raw_output b (raw_file_in b); line = convert_line b }
+
+-- an effect, unless a check gives an ending
+abbrev pub unless_ending : Option Ending → Effect → Result Effect Ending
+unless_ending (Some ending) effect = Err ending
+unless_ending None effect = Ok effect
+
+unfoldable pub convert_outcome : Held → List ℕ → List ℕ → Result Effect Ending
+convert_outcome held input out =
+    unless_ending (first_of (convert_checks held input)) (convert_effect (bytes_held held input) out)
+
+-- each command has its own outcome; one that isn't built has none
+abbrev pub command_outcome : Held → Option Command → Result Effect Ending
+command_outcome held (Some (Convert input out options)) = convert_outcome held input out
+command_outcome held _ = Err NoCommand
+
+-- the outcome of a run's words, by what is held
+abbrev pub outcome_of : Held → List (List ℕ) → Result Effect Ending
+outcome_of held words = command_outcome held (command_of words)

@@ -1,0 +1,168 @@
+-- What the clauses of a run say: of the files, of the lines, and of the status.
+use Rattle.std.specs.Prelude.{◌≡◌, ◌⊎◌, ⊤, ℕ, ◌≤◌, ◌==◌, if◌then◌else◌, List, [], ◌++◌, length, take, Option, Some, Result, Ok, Err, IfErr, IfSome, IsOkAnd}
+use Rattle.std.specs.FinMap.{insert}
+use Rattle.bl_commands.specs.declared.ending.Ending.{Ending}
+use Rattle.bl_commands.specs.declared.ending.Ending.TheVariants.{NoCommand, NoMemory, Absent, Device, BadFile, Sink}
+use Rattle.bl_commands.specs.declared.ending.FileFault.{FileFault}
+use Rattle.bl_commands.specs.declared.command.Command.{Command}
+use Rattle.bl_commands.specs.declared.command.Command.TheVariants.{Convert}
+use Rattle.bl_commands.specs.Texts.{Text, status_of, fault_line}
+use Rattle.bl_shelf.specs.declared.shelf.ShelfFault.{ShelfFault}
+use Rattle.bl_shelf.specs.declared.shelf.ShelfFault.TheVariants as shelf
+use Rattle.bl_shelf.specs.Told.{Held, with_file}
+use Rattle.bl_shelf.specs.Causes.{Rose}
+use Rattle.bl_shelf.specs.Written.{Grows, GrowsByPrefix}
+use Rattle.bl_cli.specs.Outcome.{Effect}
+
+-- ---- causes
+
+-- the count that an ending blames has risen: of misses, of the shelf's faults, of the sink's
+abbrev pub BlamesRisen : Ending → ℕ → ℕ → ℕ → ℕ → ℕ → ℕ → Type 0
+BlamesRisen (Absent file) misses misses' faults faults' puts puts' = Rose misses misses'
+BlamesRisen Device misses misses' faults faults' puts puts' = Rose faults faults'
+BlamesRisen Sink misses misses' faults faults' puts puts' = Rose puts puts'
+BlamesRisen _ misses misses' faults faults' puts puts' = ⊤
+
+-- no count has fallen, and an ending that blames the outside has its count risen
+pub record IsCaused {T : Type 0} (misses misses' faults faults' puts puts' : ℕ) (result : Result T Ending) : Type 0 where
+  pub later_misses : misses ≤ misses'
+  pub later_faults : faults ≤ faults'
+  pub later_puts : puts ≤ puts'
+  pub blamed : IfErr result (λ ending. BlamesRisen ending misses misses' faults faults' puts puts')
+
+-- an ending is that of the first check, unless memory, a device or the sink gave it
+abbrev pub IsChecked : Option Ending → Ending → Type 0
+IsChecked first NoMemory = ⊤
+IsChecked first Device = ⊤
+IsChecked first Sink = ⊤
+IsChecked first ending = first ≡ Some ending
+
+-- what a fault of a call that reads a file ends a run with, unless memory is wanted
+abbrev pub IsReadingEnding : ShelfFault → List ℕ → Ending → Type 0
+IsReadingEnding shelf.Absent name ending = (ending ≡ Absent name) ⊎ (ending ≡ NoMemory)
+IsReadingEnding shelf.Failed name ending = ending ≡ Device
+IsReadingEnding shelf.NoMemory name ending = ending ≡ NoMemory
+
+-- what a file that is refused ends a run with, unless memory is wanted
+abbrev pub IsRefusal : List ℕ → FileFault → Ending → Type 0
+IsRefusal name fault ending = (ending ≡ BadFile name fault) ⊎ (ending ≡ NoMemory)
+
+-- what a fault of a call that stores a file ends a run with; it is never `Absent`
+abbrev pub storing_ending : ShelfFault → Ending
+storing_ending shelf.Absent = Device
+storing_ending shelf.Failed = Device
+storing_ending shelf.NoMemory = NoMemory
+
+-- memory, a device or the sink gave the ending
+abbrev pub IsOutside : Ending → Type 0
+IsOutside NoMemory = ⊤
+IsOutside Device = ⊤
+IsOutside Sink = ⊤
+IsOutside _ = ⊥
+
+-- neither the words, nor a miss, nor a device, nor the sink gave the ending
+abbrev pub IsInside : Ending → Type 0
+IsInside NoCommand = ⊥
+IsInside (Absent file) = ⊥
+IsInside Device = ⊥
+IsInside Sink = ⊥
+IsInside _ = ⊤
+
+-- the words didn't give the ending
+abbrev pub IsSpelled : Ending → Type 0
+IsSpelled NoCommand = ⊥
+IsSpelled _ = ⊤
+
+-- the words gave the ending, or memory is wanted
+abbrev pub IsUnspelled : Result (Unit {0}) Ending → Type 0
+IsUnspelled result = (result ≡ Err NoCommand) ⊎ (result ≡ Err NoMemory)
+
+-- a command that this program has today; the words spell no other
+abbrev pub IsBuilt : Command → Type 0
+IsBuilt (Convert input out options) = ⊤
+IsBuilt _ = ⊥
+
+-- ---- what is stored
+
+-- the files are as before; or, where a device failed the commit, the file is stored
+abbrev pub IsUnstored : List ℕ → List ℕ → Option Held → Option Held → Ending → Type 0
+IsUnstored name bytes held held' ending =
+    (held' ≡ held) ⊎ ((ending ≡ Device) × (held' ≡ with_file name bytes held))
+
+-- ---- what is done
+
+-- the files with the effect's bytes under its name
+abbrev pub files_with_effect : Held → Effect → Held
+files_with_effect held effect = insert held effect.name effect.bytes
+
+-- the outcome is an effect, the files have it, and its line is put
+abbrev pub IsDone : Result Effect Ending → Held → Option Held → Option Text → Option Text → Type 0
+IsDone outcome held held' written written' =
+    IsOkAnd outcome (λ effect. (held' ≡ Some (files_with_effect held effect)) × Grows written effect.line written')
+
+-- the files are as before; or, where a device failed the commit, they have the effect
+abbrev pub IsLeft : Result Effect Ending → Held → Option Held → Ending → Type 0
+IsLeft outcome held held' ending =
+    (held' ≡ Some held)
+    ⊎ ((ending ≡ Device) × IsOkAnd outcome (λ effect. held' ≡ Some (files_with_effect held effect)))
+
+-- ---- lines
+
+-- the line that the outcome's effect puts
+abbrev pub own_line : Result Effect Ending → Text
+own_line (Ok effect) = effect.line
+own_line (Err ending) = []
+
+-- ---- the status
+
+abbrev pub outcome_status : Result Effect Ending → ℕ
+outcome_status (Ok effect) = 0
+outcome_status (Err ending) = status_of ending
+
+-- want of memory, a device or the sink ended the run
+abbrev pub IsFromOutside : ℕ → Type 0
+IsFromOutside status = (status ≡ 3) ⊎ (status ≡ 5) ⊎ (status ≡ 10)
+
+abbrev pub outcome_line : Result Effect Ending → Text
+outcome_line (Ok effect) = []
+outcome_line (Err ending) = fault_line ending
+
+-- the line that tells what ended a run, by its status
+abbrev pub ending_line : Result Effect Ending → ℕ → Text
+ending_line outcome status =
+    if status == 3 then fault_line NoMemory else
+    if status == 5 then fault_line Device else
+    outcome_line outcome
+
+-- A part of the effect's own line is put, and then the line that tells what ended the run. That is cut only
+-- where memory is wanted or the sink's faults rose.
+pub record PutsLines (outcome : Result Effect Ending) (status puts puts' : ℕ) (written written' : Option Text) : Type 0 where
+  pub own : ℕ
+  pub told : ℕ
+  pub lines : Grows written (take own (own_line outcome) ++ take told (ending_line outcome status)) written'
+  pub whole : (status ≡ 3) ⊎ (Rose puts puts' ⊎ (length (ending_line outcome status) ≤ told))
+
+-- the line of an ending is put; cut only where the sink's faults rose
+pub record PutsEnding (ending : Ending) (puts puts' : ℕ) (written written' : Option Text) : Type 0 where
+  pub part : GrowsByPrefix written (fault_line ending) written'
+  pub whole : Rose puts puts' ⊎ Grows written (fault_line ending) written'
+
+-- an ending's status is answered and its line put; or memory is wanted, and nothing put
+abbrev pub Reports : Ending → ℕ → ℕ → ℕ → Option Text → Option Text → Type 0
+Reports ending status puts puts' written written' =
+    ((status ≡ status_of ending) × PutsEnding ending puts puts' written written') ⊎ ((status ≡ 3) × (written' ≡ written))
+
+-- a run that is done answers 0 and puts nothing more; any other reports its ending
+abbrev pub Concludes : Result (Unit {0}) Ending → ℕ → ℕ → ℕ → Option Text → Option Text → Type 0
+Concludes (Ok _) status puts puts' written written' = (status ≡ 0) × (puts' ≡ puts) × (written' ≡ written)
+Concludes (Err ending) status puts puts' written written' = Reports ending status puts puts' written written'
+
+-- ---- what a status leaves
+
+-- after a status other than 0 the files are as before; or, after 3 or 5 and where the shelf's faults rose, they
+-- have the effect, since the commit itself failed
+abbrev pub LeavesFiles : Result Effect Ending → ℕ → Held → Option Held → ℕ → ℕ → Type 0
+LeavesFiles outcome status held held' faults faults' =
+    (held' ≡ Some held)
+    ⊎ (((status ≡ 3) ⊎ (status ≡ 5)) × Rose faults faults'
+      × IsOkAnd outcome (λ effect. held' ≡ Some (files_with_effect held effect)))

@@ -1,0 +1,41 @@
+//! Converts `.blend` files, as the words behind the program's name say.
+#![tactic(auto)]
+
+mod commands;
+mod convert;
+mod files;
+mod raw_file;
+mod raw_output;
+
+use bl_shelf::{FolderShelf, StdoutSink};
+use std::alloc::{AllocError, Global};
+use std::env;
+use std::io;
+use std::process::ExitCode;
+use std::rt::Env;
+
+pub use commands::run;
+
+// The status of want of memory.
+const NO_MEMORY: u8 = 3;
+
+// The words behind the program's name.
+fn words<R: Env + Alloc<A = Global>>(host: &R) -> io::Result<Vec<String>> {
+    let mut words = env::args(host)?;
+    let _name = words.next();
+    Ok(words.collect(host.alloc())?)
+}
+
+// Runs over the current folder and standard output. Words that aren't UTF-8 spell no command.
+fn main(host: HostRuntime) -> ExitCode {
+    let mut shelf = FolderShelf::new(host.alloc(), host);
+    let mut out = StdoutSink::new(host);
+    let status = match words(&host) {
+        Ok(words) => run(host.alloc(), &words, &mut shelf, &mut out),
+        Err(error) if error.kind() == io::ErrorKind::InvalidData => {
+            run(host.alloc(), &[], &mut shelf, &mut out)
+        }
+        Err(_) => NO_MEMORY,
+    };
+    ExitCode::from(status)
+}
