@@ -85,15 +85,27 @@ abbrev pub unless_bad_mark : Option ℕ → Result Header HeadFault → Result H
 unless_bad_mark (Some at) h = Err (BadMark at)
 unless_bad_mark None h = h
 
--- the first bytes of a compressed file: of gzip, or of zstd
+-- the first bytes of a file that gzip wrote
+abbrev pub gzip_mark : List ℕ
+gzip_mark = 0x1f ∷ 0x8b ∷ []
+
+-- the first bytes of a file that zstd wrote
+abbrev pub zstd_mark : List ℕ
+zstd_mark = 0x28 ∷ 0xb5 ∷ 0x2f ∷ 0xfd ∷ []
+
+-- a file is compressed, by its first bytes
 abbrev pub is_compressed : List ℕ → Bool
-is_compressed b = bytes_eq (take 2 b) (0x1f ∷ 0x8b ∷ []) || bytes_eq (take 4 b) (0x28 ∷ 0xb5 ∷ 0x2f ∷ 0xfd ∷ [])
+is_compressed b = bytes_eq (take 2 b) gzip_mark || bytes_eq (take 4 b) zstd_mark
+
+-- a file is shorter than a header, or doesn't begin as one
+abbrev pub lacks_magic : List ℕ → Bool
+lacks_magic b = nat_lt (length b) classic_header_size || not (bytes_eq (take 7 b) (codes "BLENDER"))
 
 -- the header of a file, or the first check that fails: compression, the first seven bytes, marks, version
 unfoldable pub header_of : List ℕ → Result Header HeadFault
 header_of b =
     if is_compressed b then Err Compressed else
-    if nat_lt (length b) classic_header_size || not (bytes_eq (take 7 b) (codes "BLENDER")) then Err BadMagic else
+    if lacks_magic b then Err BadMagic else
     unless_bad_mark (bad_mark b) (marked_header b)
 
 -- ---- one block

@@ -1,10 +1,11 @@
 -- How much a file and a run may hold at most. All limits but that on versions are this project's own.
 use Rattle.std.specs.Prelude.{ℕ}
 
--- the versions that are read: Blender's 2.50 to 4.99
+-- the first version that is read, Blender's 2.50
 abbrev pub first_version : ℕ
 first_version = 250
 
+-- the last version that is read, 4.99
 abbrev pub last_version : ℕ
 last_version = 499
 

@@ -21,6 +21,7 @@ use Rattle.bl_format.specs.Words.{part, number_at, is_one_of, aligned_place, zer
 abbrev pub Reading : Type 0 → Type 0
 Reading A = Result (A × ℕ) SdnaFault
 
+-- what is read behind a first reading, unless that has a fault
 infixl 10 ◌>>=◌
 abbrev pub ◌>>=◌ : {A B : Type 0} → Result A SdnaFault → (A → Result B SdnaFault) → Result B SdnaFault
 (Ok x) >>= f = f x

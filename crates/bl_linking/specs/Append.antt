@@ -108,14 +108,14 @@ old_name a n = if nat_lt (length (name_in a n)) 2 then take 2 (node_code (node_i
 
 -- the entries of other files than the first whose nodes in graph g pass, each with its old name
 abbrev pub added_entries : (ℕ → Source) → List Entry → Graph → (Node → Bool) → List (ℕ × List ℕ)
-added_entries sources es g p = filter is_wanted (flat_map named (enumerate_from 0 es))
+added_entries sources es g p = filter is_wanted (flat_map entry_with_name (enumerate_from 0 es))
   where
     is_wanted : ℕ × List ℕ → Bool
     is_wanted x = p (node_in g x.0)
 
-    named : ℕ × Entry → List (ℕ × List ℕ)
-    named (e, entries.Source (suc i) n) = (e, old_name (sources (suc i)) n) ∷ []
-    named (e, x) = []
+    entry_with_name : ℕ × Entry → List (ℕ × List ℕ)
+    entry_with_name (e, entries.Source (suc i) n) = (e, old_name (sources (suc i)) n) ∷ []
+    entry_with_name (e, x) = []
 
 -- some entries with fresh names for their old ones; a name once given is used
 unfoldable pub fresh_names : List (List ℕ) → ℕ → List (ℕ × List ℕ) → List (ℕ × List ℕ)
@@ -126,14 +126,14 @@ fresh_names used capacity (x ∷ xs) =
 
 -- a graph with new names for some of its nodes
 abbrev pub with_names : List (ℕ × List ℕ) → Graph → Graph
-with_names names g = map named (enumerate_from 0 g)
+with_names names g = map node_with_name (enumerate_from 0 g)
   where
     name_by : Node → Option (ℕ × List ℕ) → Node
     name_by x None = x
     name_by x (Some p) = with_name p.1 x
 
-    named : ℕ × Node → Node
-    named p = name_by p.1 (find (λ (x : ℕ × List ℕ). x.0 == p.0) names)
+    node_with_name : ℕ × Node → Node
+    node_with_name p = name_by p.1 (find (λ (x : ℕ × List ℕ). x.0 == p.0) names)
 
 -- the names that are used in a source: those of its IDs but the placeholders
 abbrev pub used_names : Source → List (List ℕ)

@@ -174,13 +174,13 @@ target_in v = None
 
 -- the nodes that the pointers of a node name, but for those of an ID's bookkeeping, slot by slot
 unfoldable pub nodes_named_by : Catalogue → Node → List ℕ
-nodes_named_by c (Struct code name group es) = flat_map (flat_map named) es
+nodes_named_by c (Struct code name group es) = flat_map (flat_map targets_of) es
   where
     x : Node
     x = Struct code name group es
 
-    named : Field → List ℕ
-    named f = if node_is_id c x && is_bookkeeping x f.0 then [] else option_to_list (target_in f.1)
+    targets_of : Field → List ℕ
+    targets_of f = if node_is_id c x && is_bookkeeping x f.0 then [] else option_to_list (target_in f.1)
 nodes_named_by c (Raw code group n kind (IsPointers to)) = flat_map option_to_list to
 nodes_named_by c (Raw code group n kind contents) = []
 

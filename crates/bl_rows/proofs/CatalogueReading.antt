@@ -7,7 +7,7 @@ use Rattle.bl_format.specs.declared.catalogue.SdnaFault.{SdnaFault}
 use Rattle.bl_format.specs.declared.catalogue.SdnaFault.TheVariants.{BadTag, CutShort, BadIndex, TwoTypes, TwoStructs}
 use Rattle.bl_format.specs.Schema.{catalogue_of, catalogue_written, padding_of, names_part, types_part, lengths_part, structs_part}
 use Rattle.bl_rows.proofs.Evaluation.{payloads}
-use Rattle.bl_rows.proofs.Literals.{hex}
+use Rattle.bl_rows.proofs.Literals.{hex, catalogue}
 use Rattle.bl_rows.proofs.Example.{example_8, example_payload}
 
 abbrev read : List ℕ → Result Catalogue SdnaFault
@@ -30,6 +30,16 @@ writes = refl
 highest_byte_first : catalogue_of Big (catalogue_written Big example_8) ≡ Ok example_8
 unfolding payloads
 highest_byte_first = refl
+
+-- a catalogue of one struct with one member takes 56 bytes
+abbrev one_member : Catalogue
+one_member = catalogue (codes "x" ∷ []) ((codes "int", 4) ∷ (codes "P", 4) ∷ []) ((1, (0, 0) ∷ []) ∷ [])
+
+writes_one_member : catalogue_written Little one_member
+    ≡ codes "SDNANAME" ++ hex "010000007800" ++ hex "0000" ++ codes "TYPE" ++ hex "02000000696e74005000"
+    ++ hex "0000" ++ codes "TLEN" ++ hex "04000400" ++ codes "STRC" ++ hex "010000000100010000000000"
+unfolding payloads
+writes_one_member = refl
 
 -- the parts, with two bytes before the types and before the lengths, and none before the structs
 parts : example_payload

@@ -65,6 +65,14 @@ offsets : map (λ (x : NamedLeaf). x.offset) (named_leaves example_8 Eight 3)
 unfolding leaves
 offsets = refl
 
+-- a struct of two structs by value and a pointer: each element's leaves, one behind another
+offsets_of_elements : map (λ (x : NamedLeaf). x.offset) (named_leaves (catalogue (codes "x" ∷ codes "y"
+    ∷ codes "at[2]" ∷ codes "*name" ∷ []) ((codes "float", 4) ∷ (codes "char", 1) ∷ (codes "V", 8)
+    ∷ (codes "P", 24) ∷ []) ((2, (0, 0) ∷ (0, 1) ∷ []) ∷ (3, (2, 2) ∷ (1, 3) ∷ []) ∷ [])) Eight 1)
+    ≡ 0 ∷ 4 ∷ 8 ∷ 12 ∷ 16 ∷ []
+unfolding leaves
+offsets_of_elements = refl
+
 narrower_and_wider : rewidth example_8 Eight Four ∷ rewidth example_4 Four Eight ∷ []
     ≡ example_4 ∷ example_8 ∷ []
 unfolding widths

@@ -19,3 +19,4 @@ pub mod DraftsOfFiles
 pub mod PrintedTexts
 pub mod Queries
 pub mod CommandWords
+pub mod MergesRefused

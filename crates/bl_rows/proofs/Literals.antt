@@ -15,11 +15,12 @@ use Rattle.bl_format.specs.Nodes.{File}
 abbrev digit : ℕ → ℕ
 digit c = if nat_lt c 97 then c - 48 else c - 87
 
--- bytes of two digits each
+-- the bytes of two digits each that a text spells
 abbrev bytes_in : List ℕ → List ℕ
 bytes_in (a ∷ b ∷ cs) = (16 * digit a + digit b) ∷ bytes_in cs
 bytes_in _ = []
 
+-- bytes in hexadecimal
 abbrev pub hex : String → List ℕ
 hex text = bytes_in (codes text)
 
@@ -49,6 +50,7 @@ abbrev pub head : List ℕ → ℕ → ℕ → ℕ → ℕ → ℕ → Head
 head code len address index count at =
     record { code = code; len = len; address = address; index = index; count = count; at = at }
 
+-- a file of a header, a catalogue, bytes and the heads of its nodes
 abbrev pub file : Header → Catalogue → List ℕ → List Head → File
 file h c bytes nodes = record { header = h; catalogue = c; nodes = nodes; bytes = bytes }
 

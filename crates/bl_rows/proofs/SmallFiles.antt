@@ -469,7 +469,8 @@ ring_b = file (header_4 405) small ring_b_bytes
     (head (code "OB") 46 16 3 1 12 ∷ head (code "LI") 54 32 2 1 78 ∷ head (code "ID") 38 48 1 1 152
     ∷ head (code "ME") 50 64 4 1 210 ∷ head (code "DATA") 8 72 0 1 280 ∷ [])
 
--- the bytes of objects that `a` links, which link `b`, and one that is linked from a file that nobody needs
+-- the bytes of objects that `a` links, one of them with a parent in `b`, and a placeholder and a library
+-- that nothing needs
 abbrev pub ring_c_bytes : List ℕ
 ring_c_bytes =
     codes "BLENDER_v405"
@@ -493,7 +494,8 @@ ring_c_bytes =
     ++ other_payload
     ++ codes "ENDB" ++ zeros 16
 
--- objects that `a` links, which link `b`, and one that is linked from a file that nobody needs
+-- objects that `a` links, one of them with a parent in `b`, and a placeholder and a library that nothing
+-- needs
 abbrev pub ring_c : File
 ring_c = file (header_4 405) other ring_c_bytes
     (head (code "OB") 52 16 3 1 12 ∷ head (code "LI") 68 32 2 1 84 ∷ head (code "ID") 44 48 1 1 172
