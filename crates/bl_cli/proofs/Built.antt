@@ -1,10 +1,10 @@
 -- The words spell no command but those that are built.
-use Rattle.std.proofs.Common.{◌≡◌, Bool, true, false, cond, List, [], ◌∷◌, ℕ, Option, Some, None, refl, subst}
+use Rattle.std.proofs.Common.{◌≡◌, Bool, true, false, cond, List, [], ◌∷◌, Option, Some, None, subst}
 use Rattle.std.specs.Prelude.{codes, option_and_then, ◌&&◌}
 use Rattle.std.specs.Str.{bytes_eq}
 use Rattle.bl_commands.specs.declared.command.Command.{Command}
 use Rattle.bl_commands.specs.declared.command.Command.TheVariants.{Convert}
-use Rattle.bl_commands.specs.Commands.{Word, Switch, Form, when, command_of, command_by, convert_words, convert_options, options_by, is_file_word}
+use Rattle.bl_commands.specs.Commands.{Word, Switch, Form, when, command_of, convert_words, convert_options, options_by, is_file_word}
 use Rattle.bl_cli.specs.Run.{IsBuilt}
 
 when_built : (test : Bool) (c c' : Command) → IsBuilt c → when test c ≡ Some c' → IsBuilt c'

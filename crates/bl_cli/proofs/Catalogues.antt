@@ -1,5 +1,5 @@
 -- The catalogues among blocks, one block more.
-use Rattle.std.proofs.Common.{◌≡◌, ℕ, suc, ◌+◌, ◌<◌, cond, List, ◌∷◌, length, drop, get_or, refl, add-one, arith}
+use Rattle.std.proofs.Common.{◌≡◌, ℕ, ◌+◌, ◌<◌, cond, List, ◌∷◌, length, drop, get_or, refl, add-one}
 use Rattle.std.proofs.Math.Seq.{drop-cons}
 use Rattle.bl_format.specs.declared.file.Head.{Head}
 use Rattle.bl_format.specs.Nodes.{is_catalogue, catalogues_in}

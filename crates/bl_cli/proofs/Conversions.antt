@@ -1,20 +1,18 @@
 -- Where all checks of `convert` pass, its effect is a conversion.
-use Rattle.std.proofs.Common.{◌≡◌, ◌≤◌, ℕ, Bool, true, false, List, [], ◌∷◌, length, Option, Some, None, Result, Ok, Err, refl, sym, ap, subst, ◌∙◌, arith}
-use Rattle.std.specs.Prelude.{All, not, ◌&&◌, ◌||◌, ◌==◌, nat_lt, is_none, unwrap_or, option_map, filter, IfSome}
-use Rattle.std.specs.List.{list_any}
+use Rattle.std.proofs.Common.{◌≡◌, ◌≤◌, ℕ, Bool, true, false, List, [], ◌∷◌, length, Option, Some, None, Result, Ok, Err, refl}
+use Rattle.std.specs.Prelude.{All, not, ◌&&◌, ◌||◌, ◌==◌, nat_lt, is_none, unwrap_or, option_map, IfSome}
 use Rattle.std.specs.Result.{result_err, result_unwrap_or}
 use Rattle.std.specs.FinMap.{get, insert}
 use Rattle.std.proofs.lemmas.Bool.{eqb-true}
 use Rattle.std.proofs.lemmas.List.Elements.{All-nil, All-cons}
 use Rattle.bl_format.specs.declared.file.Head.{Head}
 use Rattle.bl_format.specs.Limits.{most_blocks, most_input_bytes}
-use Rattle.bl_format.specs.Blocks.{header_of, blocks_of, Reads}
+use Rattle.bl_format.specs.Blocks.{header_of, blocks_of}
 use Rattle.bl_format.specs.Nodes.{is_catalogue, catalogues_in, nodes_in}
 use Rattle.bl_format.proofs.HeaderFacts.{header_facts}
 use Rattle.bl_format.proofs.BlocksOf.{blocks_of_few, reading_of_blocks}
 use Rattle.bl_commands.specs.declared.ending.Ending.{Ending}
 use Rattle.bl_commands.specs.declared.ending.Ending.TheVariants.{Absent, BadFile, PastLimit}
-use Rattle.bl_commands.specs.declared.ending.FileFault.{FileFault}
 use Rattle.bl_commands.specs.declared.ending.FileFault.TheVariants.{NotBuilt}
 use Rattle.bl_commands.specs.declared.ending.Quantity.TheVariants.{InputBytes}
 use Rattle.bl_commands.specs.declared.command.Command.{Command}
@@ -25,7 +23,7 @@ use Rattle.bl_shelf.specs.Told.{Held, Told}
 use Rattle.bl_cli.specs.RawOutput.{raw_output}
 use Rattle.bl_cli.specs.Checks.{first_of, ending_if}
 use Rattle.bl_cli.specs.Convert.{no_header, header_in, blocks_in, raw_file_in, catalogue_fault, has_struct_block, format_checks, bytes_held, convert_checks}
-use Rattle.bl_cli.specs.Outcome.{Effect, convert_effect, unless_ending, convert_outcome, command_outcome}
+use Rattle.bl_cli.specs.Outcome.{convert_outcome, command_outcome}
 use Rattle.bl_cli.specs.Conversion.{IsConversion, IsCommitted, CommitsConversion}
 use Rattle.bl_cli.specs.Run.{IsDone}
 use Rattle.bl_cli.proofs.Outputs.{all_copied, nodes_few}

@@ -1,22 +1,20 @@
--- How what is read of convert's input decides the outcome, and what storing it does.
-use Rattle.std.proofs.Common.{◌≡◌, ◌⊎◌, inl, inr, ◌≤◌, List, [], ◌∷◌, ◌++◌, length, ℕ, Option, Some, None, Result, Ok, Err, refl, sym, ap, subst, ◌∙◌, arith, option_map}
-use Rattle.std.specs.Prelude.{IfSome, nat_lt, unwrap_or, is_none}
+-- How what is read of convert's input decides the outcome.
+use Rattle.std.proofs.Common.{◌≡◌, ◌≤◌, List, [], ◌∷◌, ◌++◌, length, ℕ, Option, Some, None, Result, Ok, refl, sym, ap, ◌∙◌}
+use Rattle.std.specs.Prelude.{IfSome, unwrap_or}
 use Rattle.std.specs.Option.{option_or}
 use Rattle.std.specs.Result.{result_err}
 use Rattle.std.proofs.lemmas.Bool.{le-ltb}
-use Rattle.std.specs.FinMap.{get, insert}
+use Rattle.std.specs.FinMap.{get}
 use Rattle.bl_commands.specs.declared.ending.Ending.{Ending}
 use Rattle.bl_commands.specs.declared.ending.Ending.TheVariants as endings
-use Rattle.bl_commands.specs.Texts.{Text}
 use Rattle.bl_format.specs.Limits.{most_input_bytes}
-use Rattle.bl_shelf.specs.Told.{Told, Held, held_of, with_file, bytes_under}
-use Rattle.bl_shelf.specs.Written.{Grows, GrowsByPrefix}
+use Rattle.bl_shelf.specs.Told.{Told, Held, bytes_under}
 use Rattle.bl_cli.specs.declared.convert.Output.{Output}
-use Rattle.bl_cli.specs.Checks.{first_of, ending_if}
+use Rattle.bl_cli.specs.Checks.{first_of}
 use Rattle.bl_cli.specs.Convert.{opening_checks, format_checks, convert_checks}
-use Rattle.bl_cli.specs.Outcome.{Effect, unless_ending, convert_line, convert_effect, convert_outcome}
+use Rattle.bl_cli.specs.Outcome.{Effect, convert_effect, convert_outcome}
 use Rattle.bl_cli.specs.Prepared.{IsOutputOf}
-use Rattle.bl_cli.specs.Run.{BlamesRisen, IsChecked, IsDone, IsInside, IsLeft, IsUnstored, own_line}
+use Rattle.bl_cli.specs.Run.{BlamesRisen, IsChecked, IsInside}
 
 -- ---- checks
 
@@ -92,28 +90,3 @@ blames_none (endings.Missing lack) inside misses misses' faults faults' puts put
 blames_none (endings.FloatCast owner member) inside misses misses' faults faults' puts puts' = tt
 blames_none (endings.PastLimit quantity count) inside misses misses' faults faults' puts puts' = tt
 blames_none endings.Sink inside misses misses' faults faults' puts puts' = absurd inside
-
--- ---- what storing does
-
-module _ (told : Option Told) (input name bytes line : List ℕ) (known : IfSome told (λ t. (n : List ℕ) → convert_outcome t.held input n ≡ Ok (record { name = n; bytes = bytes; line = line }))) where
-  pub done_by : (held' : Option Held) (written written' : Option Text) → held' ≡ with_file name bytes (held_of told) → Grows written line written' → IfSome told (λ t. IsDone (convert_outcome t.held input name) t.held held' written written')
-  done_by held' written written' stored put = by_told told known stored
-    where
-      by_told : (told : Option Told) → IfSome told (λ t. (n : List ℕ) → convert_outcome t.held input n ≡ Ok (record { name = n; bytes = bytes; line = line })) → held' ≡ with_file name bytes (held_of told) → IfSome told (λ t. IsDone (convert_outcome t.held input name) t.held held' written written')
-      by_told None known stored = tt
-      by_told (Some t) known stored = rw (known name) (stored, put)
-
-  pub left_by : (held' : Option Held) (ending : Ending) → IsUnstored name bytes (held_of told) held' ending → IfSome told (λ t. IsLeft (convert_outcome t.held input name) t.held held' ending)
-  left_by held' ending unstored = by_told told known unstored
-    where
-      by_told : (told : Option Told) → IfSome told (λ t. (n : List ℕ) → convert_outcome t.held input n ≡ Ok (record { name = n; bytes = bytes; line = line })) → IsUnstored name bytes (held_of told) held' ending → IfSome told (λ t. IsLeft (convert_outcome t.held input name) t.held held' ending)
-      by_told None known unstored = tt
-      by_told (Some t) known (inl same) = inl same
-      by_told (Some t) known (inr stored) = inr (stored.0, rw (known name) stored.1)
-
-  pub part_by : (written written' : Option Text) → GrowsByPrefix written line written' → IfSome told (λ t. GrowsByPrefix written (own_line (convert_outcome t.held input name)) written')
-  part_by written written' part = by_told told known
-    where
-      by_told : (told : Option Told) → IfSome told (λ t. (n : List ℕ) → convert_outcome t.held input n ≡ Ok (record { name = n; bytes = bytes; line = line })) → IfSome told (λ t. GrowsByPrefix written (own_line (convert_outcome t.held input name)) written')
-      by_told None known = tt
-      by_told (Some t) known = rw (known name) part

@@ -1,8 +1,6 @@
 pub mod ReadsBack
-pub mod Checked
 pub mod Catalogues
 pub mod Converts
-pub mod Results
 pub mod Outputs
 pub mod Runs
 pub mod Built

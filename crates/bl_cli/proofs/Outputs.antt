@@ -1,6 +1,6 @@
 -- How the output grows block by block.
-use Rattle.std.proofs.Common.{◌≡◌, ℕ, zero, suc, ◌+◌, ◌<◌, ◌≤◌, true, false, List, [], ◌∷◌, ◌++◌, length, take, get_or, refl, ap, ◌∙◌, append_assoc, add-zero, zero-add, arith}
-use Rattle.std.specs.Prelude.{Bool, All, Ok, filter, flat_map, not}
+use Rattle.std.proofs.Common.{◌≡◌, ℕ, suc, ◌+◌, ◌<◌, ◌≤◌, true, false, List, [], ◌∷◌, ◌++◌, length, take, get_or, refl, ◌∙◌, append_assoc, add-zero, zero-add, arith}
+use Rattle.std.specs.Prelude.{All, Ok, not}
 use Rattle.std.proofs.lemmas.List.{append-nil, length-take}
 use Rattle.std.proofs.lemmas.List.Elements.{filter_more, All-weaker}
 use Rattle.std.proofs.lemmas.List.Filters.{length-filter_more}

@@ -1,15 +1,15 @@
 -- What `convert` writes of a raw file reads as the blocks that it means to write.
-use Rattle.std.proofs.Common.{◌≡◌, ℕ, ◌+◌, ◌-◌, ◌*◌, ◌^◌, ◌≤◌, ◌<◌, false, List, [], ◌∷◌, ◌++◌, length, take, drop, Ok, refl, sym, ap, subst, ◌∙◌, append_assoc, arith}
+use Rattle.std.proofs.Common.{◌≡◌, ℕ, ◌+◌, ◌*◌, ◌^◌, ◌≤◌, ◌<◌, List, [], ◌∷◌, ◌++◌, length, drop, refl, sym, ap, subst, ◌∙◌, append_assoc, arith}
 use Rattle.std.specs.Prelude.{All, codes, map}
 use Rattle.std.specs.Str.{bytes_eq}
-use Rattle.std.proofs.lemmas.List.{take_at, drop_at, length-append, length-take-le, length-drop}
+use Rattle.std.proofs.lemmas.List.{take_at, drop_at, length-take-le, length-drop}
 use Rattle.std.proofs.lemmas.List.Elements.{All-head, All-tail, All-filter}
 use Rattle.bl_num.specs.declared.number.Width.{Width}
 use Rattle.bl_num.specs.declared.number.Width.TheVariants.{Four, Eight}
 use Rattle.bl_num.specs.Numbers.{pointer_bytes}
 use Rattle.bl_format.specs.declared.file.Header.{Header}
 use Rattle.bl_format.specs.declared.file.Head.{Head}
-use Rattle.bl_format.specs.Blocks.{header_size, head_size, header_written, head_written, code_written, code_meant, IsSpelling, AreSpellings, IsFile, Reads}
+use Rattle.bl_format.specs.Blocks.{header_size, head_size, head_written, code_written, code_meant, IsSpelling, AreSpellings, Reads}
 use Rattle.bl_format.specs.Nodes.{payload, is_catalogue, catalogues_in, nodes_in}
 use Rattle.bl_format.specs.Limits.{most_blocks}
 use Rattle.bl_format.proofs.StepBack.{code_written_back}
@@ -28,25 +28,24 @@ module _ (h : Header) (b : List ℕ) where
   spells_copied at x from can code len address index count =
       let written = code_written_back h.order from.code can.code_len can.code in
       record {
-    code = code_written h.order x.code;
-    payload = payload h b from;
-    code_len = ap (λ c. length (code_written h.order c)) code ∙ written.length;
-    no_end = ap (λ c. bytes_eq (code_written h.order c) (codes "ENDB")) code ∙ written.no_end can.no_end;
-    means = ap (λ c. code_meant (code_written h.order c)) code ∙ written.meant ∙ sym code;
-    len = let fits = can.len in omega (arith, len, fits);
-    address = address;
-    index = index;
-    count = count;
-    payload_len = length-payload from can.inside ∙ sym len;
-    text_is = refl;
-  }
+        code = code_written h.order x.code;
+        payload = payload h b from;
+        code_len = ap (λ c. length (code_written h.order c)) code ∙ written.length;
+        no_end = ap (λ c. bytes_eq (code_written h.order c) (codes "ENDB")) code ∙ written.no_end can.no_end;
+        means = ap (λ c. code_meant (code_written h.order c)) code ∙ written.meant ∙ sym code;
+        len = let fits = can.len in omega (arith, len, fits);
+        address = address;
+        index = index;
+        count = count;
+        payload_len = length-payload from can.inside ∙ sym len;
+        text_is = refl;
+      }
 
   -- a block more in front
   spells_more : (at : ℕ) (x : Head) (xs : List Head) (text others : List ℕ) → IsSpelling h (record x { at = at }) text → AreSpellings h (at + (head_size h + x.len)) (placed_from h (at + (head_size h + x.len)) xs) others
       → AreSpellings h at (placed_from h at (x ∷ xs)) (text ++ others)
   spells_more at x xs text others first rest =
-      let len : length text ≡ head_size h + x.len = length-spelling h (record x { at = at }) text first in
-      (
+      let len : length text ≡ head_size h + x.len = length-spelling h (record x { at = at }) text first in (
         refl,
         subst (IsSpelling h (record x { at = at })) (sym (take_at text others (head_size h + x.len) len)) first,
         subst (AreSpellings h (at + (head_size h + x.len)) (placed_from h (at + (head_size h + x.len)) xs)) (sym (drop_at text others (head_size h + x.len) len)) rest,
@@ -94,8 +93,8 @@ output_reads b f old new few all =
       spellings = node_blocks h b 0 nodes ++ catalogue_blocks h b catalogues;
       rest = drop 4 (end_written h);
       blocks_spelled =
-        spells_nodes h b (header_size h) 0 nodes (map catalogue_head catalogues) (catalogue_blocks h b catalogues) (omega (arith, few))
-        (All-filter _ (CanBeCopied h b) f.blocks all)
-        (λ at. copied at catalogues (All-filter is_catalogue (CanBeCopied h b) f.blocks all));
+          spells_nodes h b (header_size h) 0 nodes (map catalogue_head catalogues) (catalogue_blocks h b catalogues) (omega (arith, few))
+          (All-filter _ (CanBeCopied h b) f.blocks all)
+          (λ at. copied at catalogues (All-filter is_catalogue (CanBeCopied h b) f.blocks all));
       text = simp append_assoc;
     })

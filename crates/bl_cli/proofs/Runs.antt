@@ -1,16 +1,16 @@
 -- What the end of a command says of its run.
-use Rattle.std.proofs.Common.{◌≡◌, ◌≢◌, ◌⊎◌, inl, inr, ◌≤◌, ◌<◌, ◌+◌, ℕ, List, [], ◌++◌, length, take, Option, Some, None, Result, Ok, Err, IsOk, refl, sym, ap, subst, ◌∙◌, append_assoc, arith, option_map}
+use Rattle.std.proofs.Common.{◌≡◌, ◌≢◌, ◌⊎◌, inl, inr, ◌≤◌, ℕ, List, [], ◌++◌, length, take, Option, Some, None, Result, Ok, Err, refl, sym, ap, subst, ◌∙◌, append_assoc, arith, option_map}
 use Rattle.std.specs.Prelude.{IfSome, IfErr, OnOk, OnErr}
 use Rattle.std.specs.Result.{result_err}
-use Rattle.std.proofs.lemmas.List.{take_all, append-nil, length-take}
+use Rattle.std.proofs.lemmas.List.{take_all, append-nil}
 use Rattle.bl_commands.specs.declared.ending.Ending.{Ending}
 use Rattle.bl_commands.specs.declared.ending.Ending.TheVariants as endings
 use Rattle.bl_commands.specs.Texts.{Text, status_of, fault_line}
-use Rattle.bl_shelf.specs.Causes.{Rose, next_count}
+use Rattle.bl_shelf.specs.Causes.{Rose}
 use Rattle.bl_shelf.specs.Told.{Told, Held}
 use Rattle.bl_shelf.specs.Written.{Grows, GrowsByPrefix}
 use Rattle.bl_cli.specs.Outcome.{Effect}
-use Rattle.bl_cli.specs.Run.{BlamesRisen, IsChecked, IsOutside, IsDone, IsLeft, IsFromOutside, outcome_status, own_line, outcome_line, ending_line, PutsEnding, PutsLines, Reports, Concludes, LeavesFiles}
+use Rattle.bl_cli.specs.Run.{BlamesRisen, IsChecked, IsDone, IsFromOutside, outcome_status, own_line, outcome_line, ending_line, PutsEnding, PutsLines, Reports, Concludes}
 
 abbrev Done : Type 0
 Done = Result (Unit {0}) Ending
@@ -185,30 +185,6 @@ put_part outcome e status puts1 puts2 w w1 w2 ten own (inl is) =
 -- ---- the run of a shelf that may tell
 
 module _ (told : Option Told) (outcome : Held → Result Effect Ending) (done : Done) (status : ℕ) (misses misses' faults faults' puts puts1 puts2 : ℕ) (w w1 w2 : Option Text) (held' : Option Held) where
-  pub run_statuses : Concludes done status puts1 puts2 w1 w2 → (status ≡ 0) ⊎ ((2 ≤ status) × (status ≤ 10))
-  run_statuses concludes = by_done done concludes
-    where
-      by_done : (done : Done) → Concludes done status puts1 puts2 w1 w2 → (status ≡ 0) ⊎ ((2 ≤ status) × (status ≤ 10))
-      by_done (Ok u) ends = inl ends.0
-      by_done (Err e) ends = elim (reported e status puts1 puts2 w1 w2 ends) [
-        | inl same ↦ let bounds = status_bounds e in inr (omega (arith, same, bounds.0), omega (arith, same, bounds.1))
-        | inr three ↦ inr (omega (arith, three), omega (arith, three))
-      ]
-
-  pub run_checked : Concludes done status puts1 puts2 w1 w2 → OnOk done (IfSome told (λ t. IsDone (outcome t.held) t.held held' w w1)) → IfErr done (λ e. IfSome told (λ t. IsChecked (result_err (outcome t.held)) e))
-      → IfSome told (λ t. (status ≡ outcome_status (outcome t.held)) ⊎ IsFromOutside status)
-  run_checked concludes is_done checked = by_told told done concludes is_done checked
-    where
-      of_done : (o : Result Effect Ending) (h : Held) → IsDone o h held' w w1 → outcome_status o ≡ 0
-      of_done (Ok effect) h is = refl
-      of_done (Err e) h is = absurd is
-
-      by_told : (told : Option Told) (done : Done) → Concludes done status puts1 puts2 w1 w2 → OnOk done (IfSome told (λ t. IsDone (outcome t.held) t.held held' w w1)) → IfErr done (λ e. IfSome told (λ t. IsChecked (result_err (outcome t.held)) e))
-          → IfSome told (λ t. (status ≡ outcome_status (outcome t.held)) ⊎ IsFromOutside status)
-      by_told None done ends is_done checked = tt
-      by_told (Some t) (Ok u) ends is_done checked = inl (ends.0 ∙ sym (of_done (outcome t.held) t.held is_done))
-      by_told (Some t) (Err e) ends is_done checked = status_checked (outcome t.held) e status (reported e status puts1 puts2 w1 w2 ends) checked
-
   pub run_done : Concludes done status puts1 puts2 w1 w2 → OnOk done (IfSome told (λ t. IsDone (outcome t.held) t.held held' w w1)) → IfSome told (λ t. status ≡ 0 → IsDone (outcome t.held) t.held held' w w2)
   run_done concludes is_done = by_told told done concludes is_done
     where
@@ -216,26 +192,6 @@ module _ (told : Option Told) (outcome : Held → Result Effect Ending) (done : 
       by_told None done ends is_done = tt
       by_told (Some t) (Ok u) ends is_done = λ zero. subst (λ x. IsDone (outcome t.held) t.held held' w x) (sym ends.2) is_done
       by_told (Some t) (Err e) ends is_done = λ zero. absurd (elim (reported e status puts1 puts2 w1 w2 ends) [ inl same ↦ let bounds = status_bounds e in omega (arith, same, zero, bounds.0) | inr three ↦ omega (arith, three, zero) ])
-
-  pub run_left : Concludes done status puts1 puts2 w1 w2 → IfErr done (λ e. IfSome told (λ t. IsLeft (outcome t.held) t.held held' e)) → IfErr done (λ e. BlamesRisen e misses misses' faults faults' puts puts1)
-      → IfSome told (λ t. status ≢ 0 → LeavesFiles (outcome t.held) status t.held held' faults faults')
-  run_left concludes left blamed = by_told told done concludes left blamed
-    where
-      by_case : (o : Result Effect Ending) (h : Held) (e : Ending) → Reports e status puts1 puts2 w1 w2 → IsLeft o h held' e → BlamesRisen e misses misses' faults faults' puts puts1 → LeavesFiles o status h held' faults faults'
-      by_case o h e ends (inl same) blames = inl same
-      by_case o h e ends (inr stored) blames =
-          let five : status_of e ≡ 5 = ap status_of stored.0 in
-          inr (
-            elim (reported e status puts1 puts2 w1 w2 ends) [ inl same ↦ inr (same ∙ five) | inr three ↦ inl three ],
-            blamed_device e misses misses' faults faults' puts puts1 five blames,
-            stored.1,
-          )
-
-      by_told : (told : Option Told) (done : Done) → Concludes done status puts1 puts2 w1 w2 → IfErr done (λ e. IfSome told (λ t. IsLeft (outcome t.held) t.held held' e)) → IfErr done (λ e. BlamesRisen e misses misses' faults faults' puts puts1)
-          → IfSome told (λ t. status ≢ 0 → LeavesFiles (outcome t.held) status t.held held' faults faults')
-      by_told None done ends left blamed = tt
-      by_told (Some t) (Ok u) ends left blamed = λ not_zero. absurd (not_zero ends.0)
-      by_told (Some t) (Err e) ends left blamed = λ not_zero. by_case (outcome t.held) t.held e ends left blamed
 
   pub run_lines : Concludes done status puts1 puts2 w1 w2 → puts ≤ puts1 → IfErr done (λ e. IfSome told (λ t. IsChecked (result_err (outcome t.held)) e)) → OnErr done (IfSome told (λ t. GrowsByPrefix w (own_line (outcome t.held)) w1))
       → IfSome told (λ t. status ≢ 0 → status ≢ 10 → PutsLines (outcome t.held) status puts puts2 w w2)
@@ -255,46 +211,8 @@ module _ (told : Option Told) (outcome : Held → Result Effect Ending) (done : 
       by_told (Some t) (Ok u) ends part = λ ten. absurd (omega (arith, ends.0, ten))
       by_told (Some t) (Err e) ends part = λ ten. put_part (outcome t.held) e status puts1 puts2 w w1 w2 ten part ends
 
-  pub run_blamed : Concludes done status puts1 puts2 w1 w2 → IfErr done (λ e. BlamesRisen e misses misses' faults faults' puts puts1) → puts1 ≤ puts2
-      → (status ≡ 4 → Rose misses misses') × (status ≡ 5 → Rose faults faults') × (status ≡ 10 → Rose puts puts2)
-  run_blamed concludes blamed later = by_done done concludes blamed
-    where
-      same_status : (e : Ending) → Reports e status puts1 puts2 w1 w2 → status ≢ 3 → status_of e ≡ status
-      same_status e ends not_three = elim (reported e status puts1 puts2 w1 w2 ends) [ inl same ↦ sym same | inr three ↦ absurd (not_three three) ]
-
-      by_done : (done : Done) → Concludes done status puts1 puts2 w1 w2 → IfErr done (λ e. BlamesRisen e misses misses' faults faults' puts puts1) → (status ≡ 4 → Rose misses misses') × (status ≡ 5 → Rose faults faults') × (status ≡ 10 → Rose puts puts2)
-      by_done (Ok u) ends blamed = (λ is. absurd (omega (arith, ends.0, is)), λ is. absurd (omega (arith, ends.0, is)), λ is. absurd (omega (arith, ends.0, is)))
-      by_done (Err e) ends blamed = (
-        λ is. blamed_absent e misses misses' faults faults' puts puts1 (same_status e ends (λ three. omega (arith, three, is)) ∙ is) blamed,
-        λ is. blamed_device e misses misses' faults faults' puts puts1 (same_status e ends (λ three. omega (arith, three, is)) ∙ is) blamed,
-        λ is. rose_on puts puts1 puts2 (blamed_sink e misses misses' faults faults' puts puts1 (same_status e ends (λ three. omega (arith, three, is)) ∙ is) blamed) later,
-      )
-
--- where neither the shelf's nor the sink's faults rise, an effect is done, unless memory is wanted
-pub run_complete : (told : Option Told) (outcome : Held → Result Effect Ending) (status faults faults' puts puts' : ℕ) → IfSome told (λ t. (status ≡ outcome_status (outcome t.held)) ⊎ IsFromOutside status) → (status ≡ 5 → Rose faults faults') → (status ≡ 10 → Rose puts puts')
-    → IfSome told (λ t. IsOk (outcome t.held) → (Rose faults faults' → ⊥) → (Rose puts puts' → ⊥) → (status ≡ 0) ⊎ (status ≡ 3))
-run_complete None outcome status faults faults' puts puts' checked device sink = tt
-run_complete (Some t) outcome status faults faults' puts puts' checked device sink = λ is_effect no_faults no_puts. by_cases (outcome t.held) is_effect no_faults no_puts checked
-  where
-    by_cases : (o : Result Effect Ending) → IsOk o → (Rose faults faults' → ⊥) → (Rose puts puts' → ⊥) → (status ≡ outcome_status o) ⊎ IsFromOutside status → (status ≡ 0) ⊎ (status ≡ 3)
-    by_cases (Err e) is_effect no_faults no_puts checked = cc
-    by_cases (Ok effect) is_effect no_faults no_puts (inl same) = inl same
-    by_cases (Ok effect) is_effect no_faults no_puts (inr (inl three)) = inr three
-    by_cases (Ok effect) is_effect no_faults no_puts (inr (inr (inl five))) = absurd (no_faults (device five))
-    by_cases (Ok effect) is_effect no_faults no_puts (inr (inr (inr ten))) = absurd (no_puts (sink ten))
-
 -- status 2 is the words'
 pub run_usage : (done : Done) (status puts1 puts2 : ℕ) (w1 w2 : Option Text) → Concludes done status puts1 puts2 w1 w2 → status ≡ 2 → done ≡ Err endings.NoCommand
 run_usage (Ok u) status puts1 puts2 w1 w2 ends two = absurd (omega (arith, ends.0, two))
 run_usage (Err e) status puts1 puts2 w1 w2 ends two =
     elim (reported e status puts1 puts2 w1 w2 ends) [ inl same ↦ ap Err (of_usage e (sym same ∙ two)) | inr three ↦ absurd (omega (arith, three, two)) ]
-
-pub run_unspelled : (done : Done) (status puts1 puts2 : ℕ) (w1 w2 : Option Text) → Concludes done status puts1 puts2 w1 w2 → (done ≡ Err endings.NoCommand) ⊎ (done ≡ Err endings.NoMemory) → (status ≡ 2) ⊎ (status ≡ 3)
-run_unspelled (Ok u) status puts1 puts2 w1 w2 ends (inl is) = cc
-run_unspelled (Ok u) status puts1 puts2 w1 w2 ends (inr is) = cc
-run_unspelled (Err e) status puts1 puts2 w1 w2 ends (inl is) =
-    let named : e ≡ endings.NoCommand = cc in
-    elim (reported e status puts1 puts2 w1 w2 ends) [ inl same ↦ inl (same ∙ ap status_of named) | inr three ↦ inr three ]
-run_unspelled (Err e) status puts1 puts2 w1 w2 ends (inr is) =
-    let named : e ≡ endings.NoMemory = cc in
-    elim (reported e status puts1 puts2 w1 w2 ends) [ inl same ↦ inr (same ∙ ap status_of named) | inr three ↦ inr three ]

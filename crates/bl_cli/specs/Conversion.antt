@@ -1,7 +1,6 @@
 -- What `convert` commits, by the reading of its input: the top of what is proved of it.
 use Rattle.std.specs.Prelude.{◌≡◌, ℕ, All, List, length, Option, Some}
 use Rattle.std.specs.FinMap.{get, insert}
-use Rattle.bl_format.specs.declared.file.Header.{Header}
 use Rattle.bl_format.specs.declared.file.Head.{Head}
 use Rattle.bl_format.specs.Blocks.{Reads}
 use Rattle.bl_format.specs.Nodes.{catalogues_in, nodes_in}

@@ -1,5 +1,5 @@
 -- What `convert` checks, and what it does.
-use Rattle.std.specs.Prelude.{◌≡◌, ℕ, ◌^◌, Bool, not, ◌&&◌, ◌==◌, nat_lt, List, [], ◌∷◌, ◌++◌, length, Option, Some, None, option_map, unwrap_or, is_none, Ok}
+use Rattle.std.specs.Prelude.{◌≡◌, ℕ, Bool, not, ◌&&◌, ◌==◌, nat_lt, List, [], ◌∷◌, ◌++◌, length, Option, Some, None, option_map, unwrap_or, is_none, Ok}
 use Rattle.std.specs.List.{list_any}
 use Rattle.std.specs.Result.{result_err, result_unwrap_or}
 use Rattle.std.specs.FinMap.{get}
@@ -18,7 +18,7 @@ use Rattle.bl_commands.specs.declared.ending.Quantity.TheVariants.{InputBytes}
 use Rattle.bl_commands.specs.Texts.{head_ending, block_ending}
 use Rattle.bl_shelf.specs.Told.{Held}
 use Rattle.bl_cli.specs.declared.raw_file.RawFile.{RawFile}
-use Rattle.bl_cli.specs.Checks.{ending_if, first_of}
+use Rattle.bl_cli.specs.Checks.{ending_if}
 
 -- ---- the header and the blocks of some bytes; where there are none, any header and no blocks
 

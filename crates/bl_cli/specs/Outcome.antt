@@ -1,5 +1,5 @@
 -- What a run does: the first check of its command that gives an ending, or its effect.
-use Rattle.std.specs.Prelude.{ℕ, List, [], length, Option, Some, None, Result, Ok, Err}
+use Rattle.std.specs.Prelude.{ℕ, List, length, Option, Some, None, Result, Ok, Err}
 use Rattle.bl_format.specs.Nodes.{nodes_in}
 use Rattle.bl_commands.specs.declared.command.Command.{Command}
 use Rattle.bl_commands.specs.declared.command.Command.TheVariants.{Convert}

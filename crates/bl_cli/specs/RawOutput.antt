@@ -1,7 +1,6 @@
 -- What `convert` writes of a file of raw blocks, in the file's own form.
 use Rattle.std.specs.Prelude.{◌≡◌, ◌≤◌, ◌<◌, ℕ, ◌+◌, ◌-◌, ◌*◌, ◌^◌, false, List, [], ◌∷◌, ◌++◌, length, flat_map, map, codes}
 use Rattle.std.specs.Str.{bytes_eq}
-use Rattle.std.specs.List.{enumerate_from}
 use Rattle.bl_format.specs.declared.file.Header.{Header}
 use Rattle.bl_format.specs.declared.file.Head.{Head}
 use Rattle.bl_format.specs.Words.{zeros}
@@ -85,4 +84,4 @@ placed_from h at (x ∷ xs) = record x { at = at } ∷ placed_from h (at + (head
 unfoldable pub output_blocks : RawFile → List Head
 output_blocks f =
     placed_from f.header (header_size f.header)
-      (node_heads 0 (nodes_in f.blocks) ++ map catalogue_head (catalogues_in f.blocks))
+    (node_heads 0 (nodes_in f.blocks) ++ map catalogue_head (catalogues_in f.blocks))

@@ -1,5 +1,5 @@
 -- What the clauses of a run say: of the files, of the lines, and of the status.
-use Rattle.std.specs.Prelude.{◌≡◌, ◌⊎◌, ⊤, ℕ, ◌≤◌, ◌==◌, if◌then◌else◌, List, [], ◌++◌, length, take, Option, Some, Result, Ok, Err, IfErr, IfSome, IsOkAnd}
+use Rattle.std.specs.Prelude.{◌≡◌, ◌⊎◌, ⊤, ℕ, ◌≤◌, ◌==◌, if◌then◌else◌, List, [], ◌++◌, length, take, Option, Some, Result, Ok, Err, IfErr, IsOkAnd}
 use Rattle.std.specs.FinMap.{insert}
 use Rattle.bl_commands.specs.declared.ending.Ending.{Ending}
 use Rattle.bl_commands.specs.declared.ending.Ending.TheVariants.{NoCommand, NoMemory, Absent, Device, BadFile, Sink}
@@ -165,4 +165,4 @@ abbrev pub LeavesFiles : Result Effect Ending → ℕ → Held → Option Held �
 LeavesFiles outcome status held held' faults faults' =
     (held' ≡ Some held)
     ⊎ (((status ≡ 3) ⊎ (status ≡ 5)) × Rose faults faults'
-      × IsOkAnd outcome (λ effect. held' ≡ Some (files_with_effect held effect)))
+    × IsOkAnd outcome (λ effect. held' ≡ Some (files_with_effect held effect)))

@@ -29,22 +29,24 @@ fn obey<S: Shelf, O: Sink>(
     ensures room { S.room shelf.new ≡ None }
     ensures done { OnOk result (IfSome (S.told shelf.old) (λ t.
         IsDone (command_outcome t.held (Some command.now)) t.held (held_of (S.told shelf.new))
-            (O.written out.old) (O.written out.new))) }
+        (O.written out.old) (O.written out.new))) }
     ensures checked { IfErr result (λ ending. IfSome (S.told shelf.old) (λ t.
         IsChecked (result_err (command_outcome t.held (Some command.now))) ending)) }
     ensures left { IfErr result (λ ending. IfSome (S.told shelf.old) (λ t.
         IsLeft (command_outcome t.held (Some command.now)) t.held (held_of (S.told shelf.new))
-            ending)) }
+        ending)) }
     ensures part { OnErr result (IfSome (S.told shelf.old) (λ t.
         GrowsByPrefix (O.written out.old) (own_line (command_outcome t.held (Some command.now)))
-            (O.written out.new))) }
+        (O.written out.new))) }
     ensures cause { IsCaused (S.misses shelf.old) (S.misses shelf.new) (S.faults shelf.old)
         (S.faults shelf.new) (O.faults out.old) (O.faults out.new) result }
     ensures spelled { IfErr result IsSpelled }
 {
     match command {
         Command::Convert {
-            input, out: name, ..
+            input,
+            out: name,
+            ..
         } => convert(alloc, input.as_str(), name.as_str(), shelf, out),
         _ => unreachable!(),
     }
@@ -61,15 +63,15 @@ fn perform<S: Shelf, O: Sink>(
     ensures room { S.room shelf.new ≡ None }
     ensures done { OnOk result (IfSome (S.told shelf.old) (λ t.
         IsDone (outcome_of t.held (map string_bytes words.now)) t.held
-            (held_of (S.told shelf.new)) (O.written out.old) (O.written out.new))) }
+        (held_of (S.told shelf.new)) (O.written out.old) (O.written out.new))) }
     ensures checked { IfErr result (λ ending. IfSome (S.told shelf.old) (λ t.
         IsChecked (result_err (outcome_of t.held (map string_bytes words.now))) ending)) }
     ensures left { IfErr result (λ ending. IfSome (S.told shelf.old) (λ t.
         IsLeft (outcome_of t.held (map string_bytes words.now)) t.held
-            (held_of (S.told shelf.new)) ending)) }
+        (held_of (S.told shelf.new)) ending)) }
     ensures part { OnErr result (IfSome (S.told shelf.old) (λ t.
         GrowsByPrefix (O.written out.old)
-            (own_line (outcome_of t.held (map string_bytes words.now))) (O.written out.new))) }
+        (own_line (outcome_of t.held (map string_bytes words.now))) (O.written out.new))) }
     ensures cause { IsCaused (S.misses shelf.old) (S.misses shelf.new) (S.faults shelf.old)
         (S.faults shelf.new) (O.faults out.old) (O.faults out.new) result }
     ensures usage { result ≡ Err Ending.NoCommand → command_of (map string_bytes words.now) ≡ None }
@@ -112,12 +114,7 @@ fn conclude<O: Sink>(alloc: Global, done: Result<(), Ending>, out: &mut O) -> u8
 }
 
 /// Does what the words spell, and answers the status.
-pub fn run<S: Shelf, O: Sink>(
-    alloc: Global,
-    words: &[String],
-    shelf: &mut S,
-    out: &mut O,
-) -> u8
+pub fn run<S: Shelf, O: Sink>(alloc: Global, words: &[String], shelf: &mut S, out: &mut O) -> u8
     requires { S.room shelf.old ≡ None }
     ensures statuses { (result ≡ 0) ⊎ ((2 ≤ result) × (result ≤ 10)) }
     ensures room { S.room shelf.new ≡ None }
@@ -126,7 +123,7 @@ pub fn run<S: Shelf, O: Sink>(
     // does, unless memory, a device or the sink ended the run.
     ensures checked { IfSome (S.told shelf.old) (λ t.
         (result ≡ outcome_status (outcome_of t.held (map string_bytes words.now)))
-            ⊎ IsFromOutside result) }
+        ⊎ IsFromOutside result) }
     ensures complete { IfSome (S.told shelf.old) (λ t.
         IsOk (outcome_of t.held (map string_bytes words.now))
         → ¬ Rose (S.faults shelf.old) (S.faults shelf.new)
@@ -136,23 +133,23 @@ pub fn run<S: Shelf, O: Sink>(
     // What status 0 does.
     ensures done { IfSome (S.told shelf.old) (λ t. result ≡ 0
         → IsDone (outcome_of t.held (map string_bytes words.now)) t.held
-            (held_of (S.told shelf.new)) (O.written out.old) (O.written out.new)) }
+        (held_of (S.told shelf.new)) (O.written out.old) (O.written out.new)) }
 
     // What is committed then: a conversion of the input, which reads back.
     ensures commits { IfSome (S.told shelf.old) (λ t. result ≡ 0
         → CommitsConversion (command_of (map string_bytes words.now)) t.held
-            (held_of (S.told shelf.new))) }
+        (held_of (S.told shelf.new))) }
 
     // What another status leaves, and which lines are put.
     ensures left { IfSome (S.told shelf.old) (λ t. result ≢ 0
         → LeavesFiles (outcome_of t.held (map string_bytes words.now)) result t.held
-            (held_of (S.told shelf.new)) (S.faults shelf.old) (S.faults shelf.new)) }
+        (held_of (S.told shelf.new)) (S.faults shelf.old) (S.faults shelf.new)) }
     ensures lines { IfSome (S.told shelf.old) (λ t. result ≢ 0 → result ≢ 10
         → PutsLines (outcome_of t.held (map string_bytes words.now)) result
-            (O.faults out.old) (O.faults out.new) (O.written out.old) (O.written out.new)) }
+        (O.faults out.old) (O.faults out.new) (O.written out.old) (O.written out.new)) }
     ensures part { IfSome (S.told shelf.old) (λ t. result ≡ 10
         → GrowsByPrefix (O.written out.old)
-            (own_line (outcome_of t.held (map string_bytes words.now))) (O.written out.new)) }
+        (own_line (outcome_of t.held (map string_bytes words.now))) (O.written out.new)) }
 
     // The causes of the statuses that come from outside, and of no command, of any shelf.
     ensures usage { result ≡ 2 → command_of (map string_bytes words.now) ≡ None }

@@ -55,7 +55,7 @@ fn prepared<S: Shelf>(alloc: Global, input: &str, shelf: &mut S) -> Result<Outpu
     ensures room { S.room shelf.new ≡ S.room shelf.old }
     ensures known { IfOk result (λ output. IfSome (S.told shelf.old) (λ t. (name : List ℕ)
         → convert_outcome t.held input.now name
-            ≡ Ok (record { name = name; bytes = output.bytes.items; line = output.line.items }))) }
+        ≡ Ok (record { name = name; bytes = output.bytes.items; line = output.line.items }))) }
     ensures checked { IfErr result (λ ending. IfSome (S.told shelf.old) (λ t. (name : List ℕ)
         → IsChecked (result_err (convert_outcome t.held input.now name)) ending)) }
     ensures cause { IsCaused (S.misses shelf.old) (S.misses shelf.new) (S.faults shelf.old)
@@ -82,7 +82,7 @@ pub fn convert<S: Shelf, O: Sink>(
     // The outcome of the checks decides, unless memory, a device or the sink ends the run.
     ensures done { OnOk result (IfSome (S.told shelf.old) (λ t.
         IsDone (convert_outcome t.held input.now name.now) t.held (held_of (S.told shelf.new))
-            (O.written out.old) (O.written out.new))) }
+        (O.written out.old) (O.written out.new))) }
     ensures checked { IfErr result (λ ending. IfSome (S.told shelf.old) (λ t.
         IsChecked (result_err (convert_outcome t.held input.now name.now)) ending)) }
 

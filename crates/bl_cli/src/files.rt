@@ -38,11 +38,7 @@ fn reading_ended(alloc: Global, fault: ShelfFault, name: &str) -> Ending
 }
 
 /// The bytes under a name.
-pub fn read_input<S: Shelf>(
-    alloc: Global,
-    name: &str,
-    shelf: &mut S,
-) -> Result<Vec<u8>, Ending>
+pub fn read_input<S: Shelf>(alloc: Global, name: &str, shelf: &mut S) -> Result<Vec<u8>, Ending>
     ensures told { S.told shelf.new ≡ S.told shelf.old }
     ensures room { S.room shelf.new ≡ S.room shelf.old }
     ensures cause { IsCaused (S.misses shelf.old) (S.misses shelf.new) (S.faults shelf.old) (S.faults shelf.new) 0 0 result }

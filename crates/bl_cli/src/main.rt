@@ -8,13 +8,11 @@ mod raw_file;
 mod raw_output;
 
 use bl_shelf::{FolderShelf, StdoutSink};
+pub use commands::run;
 use std::alloc::{AllocError, Global};
-use std::env;
-use std::io;
 use std::process::ExitCode;
 use std::rt::Env;
-
-pub use commands::run;
+use std::{env, io};
 
 // The status of want of memory.
 const NO_MEMORY: u8 = 3;
@@ -39,3 +37,6 @@ fn main(host: HostRuntime) -> ExitCode {
     };
     ExitCode::from(status)
 }
+
+#[cfg(test)]
+mod tests;

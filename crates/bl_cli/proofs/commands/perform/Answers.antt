@@ -1,4 +1,4 @@
-use Rattle.std.proofs.Common.{◌≡◌, Option, Some, List, ℕ, map, sym, ◌∙◌, subst}
+use Rattle.std.proofs.Common.{◌≡◌, Option, Some, map, sym, ◌∙◌, subst}
 use Rattle.std.specs.Prelude.{OnErr, IfSome}
 use Rattle.std.specs.String.{string_bytes}
 use Rattle.bl_commands.specs.declared.command.Command.{Command}

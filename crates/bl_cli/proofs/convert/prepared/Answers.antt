@@ -1,7 +1,5 @@
-use Rattle.bl_cli.proofs.Results.{if_ok, if_err}
+use Rattle.std.proofs.lemmas.Result.{IfOk-weaker, IfErr-weaker}
 use Rattle.bl_cli.proofs.Converts.{opening_checked, format_checked, takes_told_effect, blames_none}
-use Rattle.std.proofs.Common.{subst, sym}
-use Rattle.bl_cli.specs.Prepared.{IsOutputOf}
 use Rattle.bl_cli.proofs.convert.prepared.Goals as goal
 
 pub returns-in-Err-clause-checked : goal.returns-in-Err-clause-checked
@@ -9,16 +7,16 @@ returns-in-Err-clause-checked g c = opening_checked _ _ _ c.in-Err.ensures.check
 
 pub returns-in-Ok-clause-known : goal.returns-in-Ok-clause-known
 returns-in-Ok-clause-known g c =
-    if_ok _ _ c.converted.result (λ o is. takes_told_effect (g.S.Shelf.told c.args.shelf.now) c.args.input.now c.in-Ok.bytes.items o c.in-Ok.ensures.bytes c.in-Ok.ensures.small (rw (← c.deref.ensures.value) is)) c.converted.ensures.ok
+    IfOk-weaker c.converted.result _ _ (λ o is. takes_told_effect (g.S.Shelf.told c.args.shelf.now) c.args.input.now c.in-Ok.bytes.items o c.in-Ok.ensures.bytes c.in-Ok.ensures.small (rw (← c.deref.ensures.value) is)) c.converted.ensures.ok
 
 pub returns-in-Ok-clause-checked : goal.returns-in-Ok-clause-checked
 returns-in-Ok-clause-checked g c =
-    if_err _ _ c.converted.result (λ e is. format_checked (g.S.Shelf.told c.args.shelf.now) c.args.input.now c.in-Ok.bytes.items e c.in-Ok.ensures.bytes c.in-Ok.ensures.small (rw (← c.deref.ensures.value) is)) c.converted.ensures.checked
+    IfErr-weaker c.converted.result _ _ (λ e is. format_checked (g.S.Shelf.told c.args.shelf.now) c.args.input.now c.in-Ok.bytes.items e c.in-Ok.ensures.bytes c.in-Ok.ensures.small (rw (← c.deref.ensures.value) is)) c.converted.ensures.checked
 
 pub returns-in-Ok-clause-cause : goal.returns-in-Ok-clause-cause
 returns-in-Ok-clause-cause g c = record {
   later_misses = c.in-Ok.ensures.cause.later_misses;
   later_faults = c.in-Ok.ensures.cause.later_faults;
   later_puts = c.in-Ok.ensures.cause.later_puts;
-  blamed = if_err _ _ c.converted.result (λ e is. blames_none e is _ _ _ _ _ _) c.converted.ensures.inside;
+  blamed = IfErr-weaker c.converted.result _ _ (λ e is. blames_none e is _ _ _ _ _ _) c.converted.ensures.inside;
 }

@@ -1,5 +1,4 @@
 use Rattle.std.proofs.Common.{ap, ◌∙◌}
-use Rattle.bl_format.specs.Nodes.{is_catalogue}
 use Rattle.bl_cli.proofs.Outputs.{catalogue_more, same_catalogues, no_head}
 use Rattle.bl_cli.proofs.raw_output.add_catalogue.Goals as goal
 use Rattle.bl_cli.proofs.raw_output.add_catalogue.Goals.{then-is_catalogue+in_ok-add_block, else-is_catalogue}

@@ -1,4 +1,4 @@
-use Rattle.std.proofs.Common.{ap, ◌∙◌, arith, sym}
+use Rattle.std.proofs.Common.{ap, ◌∙◌, arith}
 use Rattle.bl_cli.proofs.Outputs.{node_more, same_nodes, number_more, no_head, few_nodes}
 use Rattle.bl_cli.proofs.raw_output.add_nodes.Goals as goal
 use Rattle.bl_cli.proofs.raw_output.add_nodes.Goals.{then-not-is_catalogue+in_ok-add_node, else-not-is_catalogue}
@@ -15,7 +15,7 @@ loop-block-preserved c =
       | then-not-is_catalogue+in_ok-add_node w ↦ record {
         number = w.number-is ∙ number_more c.args.blocks.now c.loop-block.block-index no_head _ c.loop-block-test.true (cc) c.loop-block.invariant.number;
         so_far = node_more c.args.header.now c.args.bytes.now c.args.blocks.now c.loop-block.block-index _ no_head _ _ _ c.loop-block-test.true (cc) c.loop-block.invariant.number
-          c.loop-block.invariant.so_far (ap (λ v. v.items) w.out-is ∙ w.in_ok-add_node.ensures);
+            c.loop-block.invariant.so_far (ap (λ v. v.items) w.out-is ∙ w.in_ok-add_node.ensures);
       }
       | else-not-is_catalogue w ↦
           let same = same_nodes c.args.header.now c.args.bytes.now c.args.blocks.now c.loop-block.block-index no_head _ _ _ _ _ c.loop-block-test.true (cc)

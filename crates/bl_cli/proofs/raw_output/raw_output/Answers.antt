@@ -1,4 +1,4 @@
-use Rattle.std.proofs.Common.{sym, append_assoc}
+use Rattle.std.proofs.Common.{append_assoc}
 use Rattle.bl_format.proofs.HeaderFacts.{header_facts}
 use Rattle.bl_format.proofs.BlocksOf.{blocks_of_few}
 use Rattle.bl_cli.specs.RawOutput.{raw_output}
