@@ -1,4 +1,7 @@
 // Runs over files in memory. The expected lines and bytes are those of the format's description.
+ghost use Rattle.std.specs.Prelude.{◌≡◌, None, IfOk};
+ghost use Rattle.bl_shelf.specs.Memory.{memory_room};
+
 use crate::run;
 use bl_num::NoMemory;
 use bl_shelf::{MemoryShelf, MemorySink};
@@ -19,7 +22,9 @@ fn shelf_of(
     file: &[u8],
     fails: Vec<u64>,
     takes_effect: bool,
-) -> Result<MemoryShelf, NoMemory> {
+) -> Result<MemoryShelf, NoMemory>
+    ensures { IfOk result (λ shelf. memory_room shelf ≡ None) }
+{
     let mut shelf = MemoryShelf::new(alloc, fails, takes_effect);
     shelf.hold("a", file)?;
     Ok(shelf)
