@@ -18,6 +18,7 @@ use Rattle.bl_commands.specs.declared.ending.Ending.TheVariants.{BadFile, Missin
 use Rattle.bl_commands.specs.declared.ending.FileFault.TheVariants.{StrayPlaceholder}
 use Rattle.bl_commands.specs.declared.ending.Lack.TheVariants.{NoIdStruct, NoName, NoLibraryStruct, NoDatablock, MissingDatablock, NoStruct}
 use Rattle.bl_commands.specs.declared.ending.Quantity.TheVariants.{PathBytes, NameBytes, Libraries}
+use Rattle.bl_commands.specs.Checks.{ending_if, first_ending}
 use Rattle.bl_format.specs.Limits.{most_libraries}
 
 -- ---- of one file
@@ -184,14 +185,6 @@ abbrev pub linked_libraries : Source → List ℕ → ℕ
 linked_libraries a path = length (libraries a) + (if is_some (library_named a path) then 0 else 1)
 
 -- ---- all checks, one behind another
-
--- an ending where a test holds
-abbrev pub ending_if : Bool → Ending → Option Ending
-ending_if test ending = if test then Some ending else None
-
--- the first ending of some checks
-abbrev pub first_ending : List (Option Ending) → Option Ending
-first_ending os = find_map (λ o. o) os
 
 -- why a file of a merge, of a name, is refused: for its catalogue, then its placeholders, then its
 -- libraries

@@ -1,5 +1,5 @@
 ghost use Rattle.std.specs.Prelude.{◌≡◌, ◌⊎◌, ◌≤◌, length, IfOk, IfErr, Ok, Err};
-ghost use Rattle.bl_format.specs.Blocks.{header_size, blocks_of};
+ghost use Rattle.bl_format.specs.Blocks.{HasBlockFault, Reads, header_of, header_size, blocks_of};
 
 use crate::{head_size, next_block};
 use bl_format::{BlockFault, Head, Header, Step};
@@ -15,6 +15,12 @@ pub fn all_blocks(alloc: Global, header: &Header, bytes: &[u8]) -> Result<Vec<He
     ensures reads { IfOk result (λ heads. blocks_of header.now bytes.now ≡ Ok heads.items) }
     ensures refuses { IfErr result (λ fault. (fault ≡ BlockFault.NoMemory)
         ⊎ (blocks_of header.now bytes.now ≡ Err fault)) }
+
+    // Behind the header that the bytes have, this is their one reading, or why they have none.
+    ensures reading { IfOk result (λ heads. header_of bytes.now ≡ Ok header.now
+        → Reads bytes.now header.now heads.items) }
+    ensures cause { IfErr result (λ fault. header_of bytes.now ≡ Ok header.now
+        → (fault ≡ BlockFault.NoMemory) ⊎ HasBlockFault bytes.now header.now fault) }
 {
     let mut heads = Vec::new(alloc);
     let mut at = HEADER_SIZE;

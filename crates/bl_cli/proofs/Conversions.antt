@@ -21,7 +21,7 @@ use Rattle.bl_commands.specs.declared.command.Command.TheVariants as commands
 use Rattle.bl_commands.specs.Texts.{Text, head_ending, block_ending}
 use Rattle.bl_shelf.specs.Told.{Held, Told}
 use Rattle.bl_cli.specs.RawOutput.{raw_output}
-use Rattle.bl_cli.specs.Checks.{first_of, ending_if}
+use Rattle.bl_commands.specs.Checks.{first_ending, ending_if}
 use Rattle.bl_cli.specs.Convert.{no_header, header_in, blocks_in, raw_file_in, catalogue_fault, has_struct_block, format_checks, bytes_held, convert_checks}
 use Rattle.bl_cli.specs.Outcome.{convert_outcome, command_outcome}
 use Rattle.bl_cli.specs.Conversion.{IsConversion, IsCommitted, CommitsConversion}
@@ -31,7 +31,7 @@ use Rattle.bl_cli.proofs.ReadsBack.{output_reads}
 
 -- ---- a check that passes
 
-passes : (check : Option Ending) (checks : List (Option Ending)) → first_of (check ∷ checks) ≡ None → (check ≡ None) × (first_of checks ≡ None)
+passes : (check : Option Ending) (checks : List (Option Ending)) → first_ending (check ∷ checks) ≡ None → (check ≡ None) × (first_ending checks ≡ None)
 passes None checks is = (refl, is)
 passes (Some e) checks is = cc
 
@@ -81,7 +81,7 @@ raw_nodes (x ∷ xs) is = raw_more x xs (is_catalogue x) refl is (raw_nodes xs (
 -- ---- the conversion
 
 -- the bytes pass the checks of their format, and are written as a raw file is
-pub converts_bytes : (name b : List ℕ) → first_of (format_checks name b) ≡ None → IsConversion b (raw_output b (raw_file_in b))
+pub converts_bytes : (name b : List ℕ) → first_ending (format_checks name b) ≡ None → IsConversion b (raw_output b (raw_file_in b))
 converts_bytes name b all =
     let head_check = option_map (head_ending name) (result_err (header_of b)) in
     let block_check = option_map (block_ending name) (result_err (blocks_of (header_in b) b)) in
@@ -105,7 +105,7 @@ converts_bytes name b all =
     }
 
 -- where no check of convert gives an ending, its effect is committed as a conversion
-committed_by : (held : Held) (held' : Option Held) (input out : List ℕ) → first_of (convert_checks held input) ≡ None → held' ≡ Some (insert held out (raw_output (bytes_held held input) (raw_file_in (bytes_held held input)))) → IsCommitted held held' input out
+committed_by : (held : Held) (held' : Option Held) (input out : List ℕ) → first_ending (convert_checks held input) ≡ None → held' ≡ Some (insert held out (raw_output (bytes_held held input) (raw_file_in (bytes_held held input)))) → IsCommitted held held' input out
 committed_by held held' input out all stored =
     let b = bytes_held held input in
     let absent = ending_if (is_none (get held input)) (Absent input) in
@@ -122,9 +122,9 @@ committed_by held held' input out all stored =
 
 convert_commits : (held : Held) (held' : Option Held) (w w' : Option Text) (input out : List ℕ) → IsDone (convert_outcome held input out) held held' w w' → IsCommitted held held' input out
 unfolding convert_outcome
-convert_commits held held' w w' input out done = by_first (first_of (convert_checks held input)) refl
+convert_commits held held' w w' input out done = by_first (first_ending (convert_checks held input)) refl
   where
-    by_first : (first : Option Ending) → first_of (convert_checks held input) ≡ first → IsCommitted held held' input out
+    by_first : (first : Option Ending) → first_ending (convert_checks held input) ≡ first → IsCommitted held held' input out
     by_first (Some e) is = absurd (rw is at done)
     by_first None is = let effect = rw is at done in committed_by held held' input out is effect.0
 

@@ -10,7 +10,7 @@ use Rattle.bl_commands.specs.declared.ending.Ending.TheVariants as endings
 use Rattle.bl_format.specs.Limits.{most_input_bytes}
 use Rattle.bl_shelf.specs.Told.{Told, Held, bytes_under}
 use Rattle.bl_cli.specs.declared.convert.Output.{Output}
-use Rattle.bl_cli.specs.Checks.{first_of}
+use Rattle.bl_commands.specs.Checks.{first_ending}
 use Rattle.bl_cli.specs.Convert.{opening_checks, format_checks, convert_checks}
 use Rattle.bl_cli.specs.Outcome.{Effect, convert_effect, convert_outcome}
 use Rattle.bl_cli.specs.Prepared.{IsOutputOf}
@@ -30,25 +30,25 @@ checked_along first more (endings.FloatCast owner member) goes is = goes _ is
 checked_along first more (endings.PastLimit quantity count) goes is = goes _ is
 checked_along first more endings.Sink goes is = tt
 
-first_of-append : (xs ys : List (Option Ending)) → first_of (xs ++ ys) ≡ option_or (first_of xs) (first_of ys)
-first_of-append [] ys = refl
-first_of-append (None ∷ xs) ys = first_of-append xs ys
-first_of-append (Some e ∷ xs) ys = refl
+first_ending-append : (xs ys : List (Option Ending)) → first_ending (xs ++ ys) ≡ option_or (first_ending xs) (first_ending ys)
+first_ending-append [] ys = refl
+first_ending-append (None ∷ xs) ys = first_ending-append xs ys
+first_ending-append (Some e ∷ xs) ys = refl
 
 -- where the file's opening gives an ending, that is the outcome
-opening_ends : (held : Held) (input name : List ℕ) (e : Ending) → first_of (opening_checks input (get held input)) ≡ Some e → result_err (convert_outcome held input name) ≡ Some e
+opening_ends : (held : Held) (input name : List ℕ) (e : Ending) → first_ending (opening_checks input (get held input)) ≡ Some e → result_err (convert_outcome held input name) ≡ Some e
 unfolding convert_outcome
-opening_ends held input name e is = rw (first_of-append (opening_checks input (get held input)) (format_checks input (unwrap_or (get held input) [])), is) refl
+opening_ends held input name e is = rw (first_ending-append (opening_checks input (get held input)) (format_checks input (unwrap_or (get held input) [])), is) refl
 
 -- where the file is opened, the checks of its bytes decide
-opened : (held : Held) (input b : List ℕ) → get held input ≡ Some b → length b ≤ most_input_bytes → first_of (convert_checks held input) ≡ first_of (format_checks input b)
+opened : (held : Held) (input b : List ℕ) → get held input ≡ Some b → length b ≤ most_input_bytes → first_ending (convert_checks held input) ≡ first_ending (format_checks input b)
 opened held input b is small = rw (is, le-ltb most_input_bytes (length b) small) refl
 
-format_ends : (held : Held) (input name b : List ℕ) (e : Ending) → get held input ≡ Some b → length b ≤ most_input_bytes → first_of (format_checks input b) ≡ Some e → result_err (convert_outcome held input name) ≡ Some e
+format_ends : (held : Held) (input name b : List ℕ) (e : Ending) → get held input ≡ Some b → length b ≤ most_input_bytes → first_ending (format_checks input b) ≡ Some e → result_err (convert_outcome held input name) ≡ Some e
 unfolding convert_outcome
 format_ends held input name b e is small ends = rw (opened held input b is small, ends) refl
 
-takes_effect : (held : Held) (input name b : List ℕ) → get held input ≡ Some b → length b ≤ most_input_bytes → first_of (format_checks input b) ≡ None → convert_outcome held input name ≡ Ok (convert_effect b name)
+takes_effect : (held : Held) (input name b : List ℕ) → get held input ≡ Some b → length b ≤ most_input_bytes → first_ending (format_checks input b) ≡ None → convert_outcome held input name ≡ Ok (convert_effect b name)
 unfolding convert_outcome
 takes_effect held input name b is small passes = rw (opened held input b is small, passes) (ap (λ (o : Option (List ℕ)). effect_of (unwrap_or o [])) is)
   where
@@ -57,11 +57,11 @@ takes_effect held input name b is small passes = rw (opened held input b is smal
 
 -- ---- the same of a shelf that may tell
 
-pub opening_checked : (told : Option Told) (input : List ℕ) (e : Ending) → IfSome told (λ t. IsChecked (first_of (opening_checks input (bytes_under input t))) e) → IfSome told (λ t. (name : List ℕ) → IsChecked (result_err (convert_outcome t.held input name)) e)
+pub opening_checked : (told : Option Told) (input : List ℕ) (e : Ending) → IfSome told (λ t. IsChecked (first_ending (opening_checks input (bytes_under input t))) e) → IfSome told (λ t. (name : List ℕ) → IsChecked (result_err (convert_outcome t.held input name)) e)
 opening_checked None input e is = tt
 opening_checked (Some t) input e is = λ name. checked_along _ _ e (opening_ends t.held input name) is
 
-pub format_checked : (told : Option Told) (input b : List ℕ) (e : Ending) → IfSome told (λ t. bytes_under input t ≡ Some b) → length b ≤ most_input_bytes → IsChecked (first_of (format_checks input b)) e → IfSome told (λ t. (name : List ℕ) → IsChecked (result_err (convert_outcome t.held input name)) e)
+pub format_checked : (told : Option Told) (input b : List ℕ) (e : Ending) → IfSome told (λ t. bytes_under input t ≡ Some b) → length b ≤ most_input_bytes → IsChecked (first_ending (format_checks input b)) e → IfSome told (λ t. (name : List ℕ) → IsChecked (result_err (convert_outcome t.held input name)) e)
 format_checked None input b e is small ends = tt
 format_checked (Some t) input b e is small ends = λ name. checked_along _ _ e (λ x same. format_ends t.held input name b x is small same) ends
 

@@ -172,6 +172,11 @@ no_line endings.Sink is = refl
 nothing_told : (e : Ending) (puts puts' : ℕ) (w w' : Option Text) → status_of e ≡ 10 → PutsEnding e puts puts' w w' → (n : ℕ) × Grows w (take n []) w'
 nothing_told e puts puts' w w' is line = (line.part.0, subst (λ x. Grows w (take line.part.0 x) w') (no_line e is) line.part.1)
 
+-- a sink that failed has its line put, which is empty
+pub sink_reports : (puts : ℕ) (w : Option Text) → Reports endings.Sink (status_of endings.Sink) puts puts w w
+unfolding fault_line
+sink_reports puts w = inl (refl, record { part = (0, same_grown w w refl); whole = inr (same_grown w w refl) })
+
 take_none : (n : ℕ) → take {A = ℕ} n [] ≡ []
 take_none n = take_all {A = ℕ} n [] (omega arith)
 

@@ -18,7 +18,7 @@ use Rattle.bl_commands.specs.declared.ending.Quantity.TheVariants.{InputBytes}
 use Rattle.bl_commands.specs.Texts.{head_ending, block_ending}
 use Rattle.bl_shelf.specs.Told.{Held}
 use Rattle.bl_cli.specs.declared.raw_file.RawFile.{RawFile}
-use Rattle.bl_cli.specs.Checks.{ending_if}
+use Rattle.bl_commands.specs.Checks.{ending_if}
 
 -- ---- the header and the blocks of some bytes; where there are none, any header and no blocks
 

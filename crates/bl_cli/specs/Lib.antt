@@ -1,4 +1,3 @@
-pub mod Checks
 pub mod RawOutput
 pub mod Convert
 pub mod Outcome

@@ -1,5 +1,7 @@
 -- What a run does: the first check of its command that gives an ending, or its effect.
-use Rattle.std.specs.Prelude.{ℕ, List, length, Option, Some, None, Result, Ok, Err}
+use Rattle.std.specs.Prelude.{ℕ, List, length, map, String, Option, Some, None, Result, Ok, Err}
+use Rattle.std.specs.String.{string_bytes}
+use Rattle.std.specs.declared.alloc.Global.{Global}
 use Rattle.bl_format.specs.Nodes.{nodes_in}
 use Rattle.bl_commands.specs.declared.command.Command.{Command}
 use Rattle.bl_commands.specs.declared.command.Command.TheVariants.{Convert}
@@ -8,7 +10,7 @@ use Rattle.bl_commands.specs.declared.ending.Ending.TheVariants.{NoCommand}
 use Rattle.bl_commands.specs.Commands.{command_of}
 use Rattle.bl_commands.specs.Texts.{Text, summary_line}
 use Rattle.bl_shelf.specs.Told.{Held}
-use Rattle.bl_cli.specs.Checks.{first_of}
+use Rattle.bl_commands.specs.Checks.{first_ending}
 use Rattle.bl_cli.specs.RawOutput.{raw_output}
 use Rattle.bl_cli.specs.Convert.{bytes_held, blocks_in, raw_file_in, convert_checks}
 
@@ -33,13 +35,17 @@ unless_ending None effect = Ok effect
 
 unfoldable pub convert_outcome : Held → List ℕ → List ℕ → Result Effect Ending
 convert_outcome held input out =
-    unless_ending (first_of (convert_checks held input)) (convert_effect (bytes_held held input) out)
+    unless_ending (first_ending (convert_checks held input)) (convert_effect (bytes_held held input) out)
 
 -- each command has its own outcome; one that isn't built has none
 abbrev pub command_outcome : Held → Option Command → Result Effect Ending
 command_outcome held (Some (Convert input out options)) = convert_outcome held input out
 command_outcome held _ = Err NoCommand
 
+-- the command that the words of a run spell
+abbrev pub command_in : List (String Global) → Option Command
+command_in words = command_of (map string_bytes words)
+
 -- the outcome of a run's words, by what is held
-abbrev pub outcome_of : Held → List (List ℕ) → Result Effect Ending
-outcome_of held words = command_outcome held (command_of words)
+abbrev pub run_outcome : Held → List (String Global) → Result Effect Ending
+run_outcome held words = command_outcome held (command_in words)

@@ -1,14 +1,12 @@
 // The commands of a run.
-ghost use Rattle.std.specs.Prelude.{◌≡◌, ◌≢◌, ◌⊎◌, ◌≤◌, ◌↔◌, map, Some, None, OnOk, OnErr, IfErr, IfSome, IsErrOf, IsOk};
+ghost use Rattle.std.specs.Prelude.{◌≡◌, ◌≢◌, ◌⊎◌, ◌≤◌, Some, None, OnOk, OnErr, IfErr, IfSome, IsOk};
 ghost use Rattle.std.specs.Result.{result_err};
-ghost use Rattle.std.specs.String.{string_bytes};
-ghost use Rattle.bl_commands.specs.Commands.{command_of};
 ghost use Rattle.bl_commands.specs.Texts.{status_of};
 ghost use Rattle.bl_shelf.specs.Causes.{Rose};
 ghost use Rattle.bl_shelf.specs.Told.{held_of};
 ghost use Rattle.bl_shelf.specs.Written.{GrowsByPrefix};
 ghost use Rattle.bl_cli.specs.Conversion.{CommitsConversion};
-ghost use Rattle.bl_cli.specs.Outcome.{command_outcome, outcome_of};
+ghost use Rattle.bl_cli.specs.Outcome.{command_in, command_outcome, run_outcome};
 ghost use Rattle.bl_cli.specs.Run.{Concludes, IsBuilt, IsCaused, IsChecked, IsDone, IsFromOutside, IsLeft, IsSpelled, IsUnspelled, LeavesFiles, PutsLines, Reports, outcome_status, own_line};
 
 use crate::convert::convert;
@@ -62,20 +60,20 @@ fn perform<S: Shelf, O: Sink>(
     requires { S.room shelf.old ≡ None }
     ensures room { S.room shelf.new ≡ None }
     ensures done { OnOk result (IfSome (S.told shelf.old) (λ t.
-        IsDone (outcome_of t.held (map string_bytes words.now)) t.held
+        IsDone (run_outcome t.held words.now) t.held
         (held_of (S.told shelf.new)) (O.written out.old) (O.written out.new))) }
     ensures checked { IfErr result (λ ending. IfSome (S.told shelf.old) (λ t.
-        IsChecked (result_err (outcome_of t.held (map string_bytes words.now))) ending)) }
+        IsChecked (result_err (run_outcome t.held words.now)) ending)) }
     ensures left { IfErr result (λ ending. IfSome (S.told shelf.old) (λ t.
-        IsLeft (outcome_of t.held (map string_bytes words.now)) t.held
+        IsLeft (run_outcome t.held words.now) t.held
         (held_of (S.told shelf.new)) ending)) }
     ensures part { OnErr result (IfSome (S.told shelf.old) (λ t.
         GrowsByPrefix (O.written out.old)
-        (own_line (outcome_of t.held (map string_bytes words.now))) (O.written out.new))) }
+        (own_line (run_outcome t.held words.now)) (O.written out.new))) }
     ensures cause { IsCaused (S.misses shelf.old) (S.misses shelf.new) (S.faults shelf.old)
         (S.faults shelf.new) (O.faults out.old) (O.faults out.new) result }
-    ensures usage { result ≡ Err Ending.NoCommand → command_of (map string_bytes words.now) ≡ None }
-    ensures unspelled { command_of (map string_bytes words.now) ≡ None → IsUnspelled result }
+    ensures usage { result ≡ Err Ending.NoCommand → command_in words.now ≡ None }
+    ensures unspelled { command_in words.now ≡ None → IsUnspelled result }
 {
     match command_of(alloc, words) {
         Err(_) => Err(Ending::NoMemory),
@@ -90,18 +88,17 @@ fn report<O: Sink>(alloc: Global, ending: &Ending, out: &mut O) -> u8
         (O.written out.old) (O.written out.new) }
     ensures later { O.faults out.old ≤ O.faults out.new }
 {
-    let status = status_of(ending);
+    let no_memory = status_of(&Ending::NoMemory);
     match fault_line(alloc, ending) {
-        Err(_) => 3,
+        Err(_) => no_memory,
         Ok(line) => match out.put(&line) {
-            Ok(()) => status,
-            Err(SinkFault::Failed) => status,
-            Err(SinkFault::NoMemory) => 3,
+            Ok(()) | Err(SinkFault::Failed) => status_of(ending),
+            Err(SinkFault::NoMemory) => no_memory,
         },
     }
 }
 
-// Answers the status of a run, and puts the line of what ended it.
+// Answers the status of a run, and puts the line of what ended it; a sink that failed gets none.
 fn conclude<O: Sink>(alloc: Global, done: Result<(), Ending>, out: &mut O) -> u8
     ensures concludes { Concludes done result (O.faults out.old) (O.faults out.new)
         (O.written out.old) (O.written out.new) }
@@ -109,6 +106,7 @@ fn conclude<O: Sink>(alloc: Global, done: Result<(), Ending>, out: &mut O) -> u8
 {
     match done {
         Ok(()) => 0,
+        Err(Ending::Sink) => status_of(&Ending::Sink),
         Err(ending) => report(alloc, &ending, out),
     }
 }
@@ -122,38 +120,38 @@ pub fn run<S: Shelf, O: Sink>(alloc: Global, words: &[String], shelf: &mut S, ou
     // The status is that of the first check of the command that gives an ending, and 0 where none
     // does, unless memory, a device or the sink ended the run.
     ensures checked { IfSome (S.told shelf.old) (λ t.
-        (result ≡ outcome_status (outcome_of t.held (map string_bytes words.now)))
+        (result ≡ outcome_status (run_outcome t.held words.now))
         ⊎ IsFromOutside result) }
     ensures complete { IfSome (S.told shelf.old) (λ t.
-        IsOk (outcome_of t.held (map string_bytes words.now))
+        IsOk (run_outcome t.held words.now)
         → ¬ Rose (S.faults shelf.old) (S.faults shelf.new)
         → ¬ Rose (O.faults out.old) (O.faults out.new)
         → (result ≡ 0) ⊎ (result ≡ 3)) }
 
     // What status 0 does.
     ensures done { IfSome (S.told shelf.old) (λ t. result ≡ 0
-        → IsDone (outcome_of t.held (map string_bytes words.now)) t.held
+        → IsDone (run_outcome t.held words.now) t.held
         (held_of (S.told shelf.new)) (O.written out.old) (O.written out.new)) }
 
     // What is committed then: a conversion of the input, which reads back.
     ensures commits { IfSome (S.told shelf.old) (λ t. result ≡ 0
-        → CommitsConversion (command_of (map string_bytes words.now)) t.held
+        → CommitsConversion (command_in words.now) t.held
         (held_of (S.told shelf.new))) }
 
     // What another status leaves, and which lines are put.
     ensures left { IfSome (S.told shelf.old) (λ t. result ≢ 0
-        → LeavesFiles (outcome_of t.held (map string_bytes words.now)) result t.held
+        → LeavesFiles (run_outcome t.held words.now) result t.held
         (held_of (S.told shelf.new)) (S.faults shelf.old) (S.faults shelf.new)) }
     ensures lines { IfSome (S.told shelf.old) (λ t. result ≢ 0 → result ≢ 10
-        → PutsLines (outcome_of t.held (map string_bytes words.now)) result
+        → PutsLines (run_outcome t.held words.now) result
         (O.faults out.old) (O.faults out.new) (O.written out.old) (O.written out.new)) }
     ensures part { IfSome (S.told shelf.old) (λ t. result ≡ 10
         → GrowsByPrefix (O.written out.old)
-        (own_line (outcome_of t.held (map string_bytes words.now))) (O.written out.new)) }
+        (own_line (run_outcome t.held words.now)) (O.written out.new)) }
 
     // The causes of the statuses that come from outside, and of no command, of any shelf.
-    ensures usage { result ≡ 2 → command_of (map string_bytes words.now) ≡ None }
-    ensures unspelled { command_of (map string_bytes words.now) ≡ None
+    ensures usage { result ≡ 2 → command_in words.now ≡ None }
+    ensures unspelled { command_in words.now ≡ None
         → (result ≡ 2) ⊎ (result ≡ 3) }
     ensures absent { result ≡ 4 → Rose (S.misses shelf.old) (S.misses shelf.new) }
     ensures device { result ≡ 5 → Rose (S.faults shelf.old) (S.faults shelf.new) }

@@ -4,7 +4,7 @@ ghost use Rattle.std.specs.Result.{result_err};
 ghost use Rattle.bl_format.specs.Nodes.{nodes_in};
 ghost use Rattle.bl_shelf.specs.Told.{held_of};
 ghost use Rattle.bl_shelf.specs.Written.{GrowsByPrefix};
-ghost use Rattle.bl_cli.specs.Checks.{first_of};
+ghost use Rattle.bl_commands.specs.Checks.{first_ending};
 ghost use Rattle.bl_cli.specs.Convert.{format_checks};
 ghost use Rattle.bl_cli.specs.Outcome.{convert_outcome};
 ghost use Rattle.bl_cli.specs.Prepared.{IsOutputOf};
@@ -35,7 +35,7 @@ fn node_count(blocks: &[Head]) -> usize
 // What becomes of an input's bytes.
 fn converted(alloc: Global, input: &str, bytes: &[u8]) -> Result<Output, Ending>
     ensures ok { IfOk result (IsOutputOf input.now bytes.now) }
-    ensures checked { IfErr result (IsChecked (first_of (format_checks input.now bytes.now))) }
+    ensures checked { IfErr result (IsChecked (first_ending (format_checks input.now bytes.now))) }
     ensures inside { IfErr result IsInside }
 {
     match open_raw(alloc, input, bytes) {

@@ -4,7 +4,7 @@ ghost use Rattle.bl_shelf.specs.Causes.{Rose};
 ghost use Rattle.bl_shelf.specs.Told.{bytes_under, held_of, with_file};
 ghost use Rattle.bl_shelf.specs.Written.{Grows, GrowsByPrefix};
 ghost use Rattle.bl_format.specs.Limits.{most_input_bytes};
-ghost use Rattle.bl_cli.specs.Checks.{first_of};
+ghost use Rattle.bl_commands.specs.Checks.{first_ending};
 ghost use Rattle.bl_cli.specs.Convert.{opening_checks};
 ghost use Rattle.bl_cli.specs.Run.{IsCaused, IsChecked, IsOutside, IsReadingEnding, IsSpelled, IsUnstored, storing_ending};
 
@@ -45,7 +45,7 @@ pub fn read_input<S: Shelf>(alloc: Global, name: &str, shelf: &mut S) -> Result<
     ensures bytes { IfOk result (λ bytes. IfSome (S.told shelf.old) (λ t. bytes_under name.now t ≡ Some bytes.items)) }
     ensures small { IfOk result (λ bytes. length bytes.items ≤ most_input_bytes) }
     ensures checked { IfErr result (λ ending. IfSome (S.told shelf.old) (λ t.
-        IsChecked (first_of (opening_checks name.now (bytes_under name.now t))) ending)) }
+        IsChecked (first_ending (opening_checks name.now (bytes_under name.now t))) ending)) }
     ensures spelled { IfErr result IsSpelled }
 {
     let size = match shelf.size(name) {

@@ -1,6 +1,6 @@
 ghost use Rattle.std.specs.Prelude.{◌≡◌, None, OnOk, IfOk, IfErr};
 ghost use Rattle.bl_format.specs.Nodes.{is_catalogue, catalogues_in};
-ghost use Rattle.bl_cli.specs.Checks.{first_of};
+ghost use Rattle.bl_commands.specs.Checks.{first_ending};
 ghost use Rattle.bl_cli.specs.Convert.{IsRawFile, second_fault, catalogue_fault, has_struct_block, format_checks};
 ghost use Rattle.bl_cli.specs.Run.{IsChecked, IsInside, IsRefusal};
 
@@ -72,8 +72,8 @@ fn refused(alloc: Global, name: &str, fault: FileFault) -> Ending
 /// Reads the header and the blocks of a file, which has one catalogue and raw blocks beside it.
 pub fn open_raw(alloc: Global, name: &str, bytes: &[u8]) -> Result<RawFile, Ending>
     ensures read { IfOk result (IsRawFile bytes.now) }
-    ensures passes { OnOk result (first_of (format_checks name.now bytes.now) ≡ None) }
-    ensures checked { IfErr result (IsChecked (first_of (format_checks name.now bytes.now))) }
+    ensures passes { OnOk result (first_ending (format_checks name.now bytes.now) ≡ None) }
+    ensures checked { IfErr result (IsChecked (first_ending (format_checks name.now bytes.now))) }
     ensures inside { IfErr result IsInside }
 {
     let header = match parse_header(bytes) {

@@ -15,7 +15,7 @@ use Rattle.bl_format.specs.declared.file.BlockFault.TheVariants.{TooManyBlocks}
 use Rattle.bl_format.specs.declared.file.Step.{Step}
 use Rattle.bl_format.specs.declared.file.Step.TheVariants.{Block, End}
 use Rattle.bl_format.specs.Words.{number_at}
-use Rattle.bl_format.specs.Blocks.{header_of, header_size, head_size, head_in, code_meant, is_negative, checked_head, step_in, step_at, most_blocks, with_block, blocks_within, blocks_of, AreBlocks, Reads, Breaks, HasTooManyBlocks}
+use Rattle.bl_format.specs.Blocks.{header_of, header_size, head_size, head_in, code_meant, is_negative, checked_head, step_in, step_at, most_blocks, with_block, blocks_within, blocks_of, AreBlocks, Reads, Breaks, HasTooManyBlocks, HasBlockFault}
 
 -- blocks stand from a place on, and behind them the file ends
 pub record HasBlocksToEnd (h : Header) (b : List ℕ) (at : ℕ) (blocks : List Head) : Type 0 where
@@ -164,12 +164,12 @@ blocks_of_too_many b h x = within_full h b (most_blocks + 1) (header_size h) x.e
 
 -- what a fault that is computed says of the file
 pub blocks_of_cause : (b : List ℕ) (h : Header) (fault : BlockFault) → header_of b ≡ Ok h → blocks_of h b ≡ Err fault
-    → ((x : Breaks b h fault) × (length x.blocks ≤ most_blocks)) ⊎ (HasTooManyBlocks b h × (fault ≡ TooManyBlocks (most_blocks + 1)))
+    → HasBlockFault b h fault
 unfolding blocks_of
 blocks_of_cause b h fault header e = cause (within_failed h b (most_blocks + 1) (header_size h) fault e)
   where
     cause : HasFault h b (header_size h) (most_blocks + 1) fault ⊎ (HasBlocks h b (header_size h) (most_blocks + 1) × (fault ≡ TooManyBlocks (most_blocks + 1)))
-        → ((x : Breaks b h fault) × (length x.blocks ≤ most_blocks)) ⊎ (HasTooManyBlocks b h × (fault ≡ TooManyBlocks (most_blocks + 1)))
+        → HasBlockFault b h fault
     cause (inl f) = let few = f.few in inl (record { header = header; blocks = f.blocks; end = f.end; blocks_stand = f.blocks_stand; fails = f.fails }, omega (arith, few))
     cause (inr m) = inr (record { header = header; blocks = m.0.blocks; end = m.0.end; blocks_stand = m.0.blocks_stand; too_many = m.0.number }, m.1)
 

@@ -2,7 +2,7 @@
 -- file, which says the same without places. The header and the heads are Blender's (`BHead`, `readfile`,
 -- `writefile`). This project's own: the order of the checks, which versions are read, how a code of two
 -- letters is spelled where the highest byte comes first, and the limit on blocks.
-use Rattle.std.specs.Prelude.{◌≡◌, ℕ, zero, suc, ◌+◌, ◌-◌, ◌*◌, ◌/◌, ◌%◌, ◌^◌, ◌<◌, ◌≤◌, Bool, false, not, ◌&&◌, ◌||◌, ◌==◌, nat_le, nat_lt, if◌then◌else◌, List, [], ◌∷◌, ◌++◌, length, take, drop, Option, Some, None, Result, Ok, Err, codes, slice_index}
+use Rattle.std.specs.Prelude.{◌≡◌, ◌⊎◌, ℕ, zero, suc, ◌+◌, ◌-◌, ◌*◌, ◌/◌, ◌%◌, ◌^◌, ◌<◌, ◌≤◌, Bool, false, not, ◌&&◌, ◌||◌, ◌==◌, nat_le, nat_lt, if◌then◌else◌, List, [], ◌∷◌, ◌++◌, length, take, drop, Option, Some, None, Result, Ok, Err, codes, slice_index}
 use Rattle.std.specs.List.{list_all}
 use Rattle.std.specs.Str.{bytes_eq, byte}
 use Rattle.std.specs.Char.{is_ascii_digit}
@@ -218,6 +218,13 @@ pub record HasTooManyBlocks (b : List ℕ) (h : Header) : Type 0 where
   pub end : ℕ
   pub blocks_stand : AreBlocks h b (header_size h) blocks end
   pub too_many : length blocks ≡ most_blocks + 1
+
+-- why the blocks behind a file's header can't be read: a check fails behind no more blocks than the limit, or
+-- there is one block more than the limit
+abbrev pub HasBlockFault : List ℕ → Header → BlockFault → Type 0
+HasBlockFault b h fault =
+    ((x : Breaks b h fault) × (length x.blocks ≤ most_blocks))
+    ⊎ (HasTooManyBlocks b h × (fault ≡ TooManyBlocks (most_blocks + 1)))
 
 -- ---- what is written
 

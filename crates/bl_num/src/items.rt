@@ -75,3 +75,24 @@ impl Text {
         self.bytes
     }
 }
+
+#[cfg(test)]
+mod tests {
+    use super::*;
+    use std::alloc::AllocError;
+
+    #[test]
+    fn keep_their_elements(rt: HostRuntime) -> Result<(), AllocError> {
+        let mut numbers = Vec::new(rt.alloc());
+        numbers.push(7u32)?;
+        let items = Items::from_vec(numbers);
+        assert_eq!(rt; items.as_slice(), [7].as_slice());
+        assert_eq!(rt; items.into_vec().len(), 1);
+        let mut bytes = Vec::new(rt.alloc());
+        bytes.push(0xffu8)?;
+        let text = Text::from_vec(bytes);
+        assert_eq!(rt; text.as_slice(), [0xff].as_slice());
+        assert_eq!(rt; text.into_vec().len(), 1);
+        Ok(())
+    }
+}

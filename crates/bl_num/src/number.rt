@@ -80,3 +80,35 @@ pub fn write_whole(order: Order, value: u64, dst: &mut [u8])
         Order::Big => dst.copy_from_slice(&value.to_be_bytes()[8 - len..]),
     }
 }
+
+#[cfg(test)]
+mod tests {
+    use super::*;
+
+    #[test]
+    fn reads_what_it_writes(rt: HostRuntime) {
+        for (order, bytes) in [
+            (
+                Order::Little,
+                [0x08, 0x07, 0x06, 0x05, 0x04, 0x03, 0x02, 0x81],
+            ),
+            (Order::Big, [0x81, 0x02, 0x03, 0x04, 0x05, 0x06, 0x07, 0x08]),
+        ] {
+            for (len, value) in [
+                (1, 0x08),
+                (2, 0x0708),
+                (4, 0x0506_0708),
+                (8, 0x8102_0304_0506_0708),
+            ] {
+                let mut written = [0; 8];
+                write_whole(order, 0x8102_0304_0506_0708, &mut written[..len]);
+                let expected = match order {
+                    Order::Little => &bytes[..len],
+                    Order::Big => &bytes[8 - len..],
+                };
+                assert_eq!(rt; &written[..len], expected);
+                assert_eq!(rt; read_whole(order, expected), value);
+            }
+        }
+    }
+}

@@ -3,10 +3,11 @@ use Rattle.std.proofs.lemmas.List.{take_rest}
 use Rattle.std.proofs.lemmas.Result.{err_from_is_err_and}
 use Rattle.bl_format.specs.declared.file.Header.{Header}
 use Rattle.bl_format.specs.declared.file.BlockFault.{BlockFault}
+use Rattle.bl_format.specs.declared.file.BlockFault.TheVariants.{TooManyBlocks}
 use Rattle.bl_format.specs.declared.file.Step.{Step}
 use Rattle.bl_format.specs.declared.file.Step.TheVariants.{Block, End}
 use Rattle.bl_format.specs.Blocks.{header_size, head_size, most_blocks, blocks_of, step_in, step_at, AreBlocks}
-use Rattle.bl_format.proofs.BlocksOf.{within_ends, within_fails, within_full, AreBlocks-push, block_inside}
+use Rattle.bl_format.proofs.BlocksOf.{blocks_of_cause, reading_of_blocks, within_ends, within_fails, within_full, AreBlocks-push, block_inside}
 use Rattle.bl_blocks.proofs.blocks.all_blocks.Goals as goal
 
 -- a step over the rest of a file is a step at its place
@@ -58,3 +59,30 @@ pub returns-clause-refuses : goal.returns-clause-refuses
 unfolding blocks_of
 returns-clause-refuses c =
     inr (within_full c.args.header.now c.args.bytes.now (most_blocks + 1) (header_size c.args.header.now) c.loop.at c.loop.heads.items c.loop.invariant.stand (omega (arith, c.loop.invariant.number, c.loop-test.false)))
+
+pub returns-in_err-head-clause-cause : goal.returns-in_err-head-clause-cause
+unfolding blocks_of
+returns-in_err-head-clause-cause c =
+    let h = c.args.header.now in
+    let b = c.args.bytes.now in
+    let p = err_from_is_err_and c.from_residual.result c.from_residual.ensures.1 in
+    let s = step_of h b c.loop.at c.next_block.result (Err p.0) c.next_block.ensures (c.in_err-head.was ∙ ap Err (sym p.2)) in
+    let fails = within_fails h b (most_blocks + 1) (header_size h) c.loop.at c.loop.heads.items p.0 c.loop.invariant.stand s (omega (arith, c.loop.invariant.number, c.loop-test.true)) in
+    rw p.1 (λ header. inr (blocks_of_cause b h p.0 header fails))
+
+pub returns-in-End-clause-reading : goal.returns-in-End-clause-reading
+unfolding blocks_of
+returns-in-End-clause-reading c =
+    let h = c.args.header.now in
+    let b = c.args.bytes.now in
+    let s = step_of h b c.loop.at c.next_block.result (Ok End) c.next_block.ensures (c.in_ok-head.was ∙ ap Ok c.in-End.is) in
+    let ends = within_ends h b (most_blocks + 1) (header_size h) c.loop.at c.loop.heads.items c.loop.invariant.stand s (omega (arith, c.loop.invariant.number, c.loop-test.true)) in
+    λ header. reading_of_blocks b h c.loop.heads.items header ends
+
+pub returns-clause-cause : goal.returns-clause-cause
+unfolding blocks_of
+returns-clause-cause c =
+    let h = c.args.header.now in
+    let b = c.args.bytes.now in
+    let full = within_full h b (most_blocks + 1) (header_size h) c.loop.at c.loop.heads.items c.loop.invariant.stand (omega (arith, c.loop.invariant.number, c.loop-test.false)) in
+    λ header. inr (blocks_of_cause b h (TooManyBlocks (most_blocks + 1)) header full)

@@ -4,7 +4,7 @@ use Rattle.std.specs.String.{string_bytes}
 use Rattle.bl_commands.specs.declared.command.Command.{Command}
 use Rattle.bl_commands.specs.Commands.{command_of}
 use Rattle.bl_shelf.specs.Written.{GrowsByPrefix}
-use Rattle.bl_cli.specs.Outcome.{command_outcome}
+use Rattle.bl_cli.specs.Outcome.{command_in, command_outcome}
 use Rattle.bl_cli.specs.Run.{own_line}
 use Rattle.bl_cli.proofs.Built.{command_built}
 use Rattle.bl_cli.proofs.commands.perform.Goals as goal
@@ -14,5 +14,5 @@ obey-requires-clause-built g c = command_built _ c.in-Ok-Some.command (sym c.in-
 
 pub returns-in-Ok-Some-clause-part : goal.returns-in-Ok-Some-clause-part
 returns-in-Ok-Some-clause-part g c =
-    let spelled : Some c.in-Ok-Some.command ≡ command_of (map string_bytes c.args.words.now) = sym c.in-Ok-Some.field-0-is ∙ c.in-Ok-Some.ensures in
+    let spelled : Some c.in-Ok-Some.command ≡ command_in c.args.words.now = sym c.in-Ok-Some.field-0-is ∙ c.in-Ok-Some.ensures in
     subst (λ (o : Option Command). OnErr c.obey.result (IfSome (g.S.Shelf.told c.args.shelf.now) (λ t. GrowsByPrefix (g.O.Sink.written c.args.out.now) (own_line (command_outcome t.held o)) (g.O.Sink.written c.obey.new.out)))) spelled c.obey.ensures.part

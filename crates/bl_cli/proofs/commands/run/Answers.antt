@@ -1,6 +1,6 @@
 use Rattle.std.proofs.Common.{map, None}
 use Rattle.std.specs.String.{string_bytes}
-use Rattle.bl_cli.specs.Outcome.{outcome_of}
+use Rattle.bl_cli.specs.Outcome.{command_in, run_outcome}
 use Rattle.bl_commands.specs.Commands.{command_of}
 use Rattle.bl_shelf.specs.Told.{held_of}
 use Rattle.bl_cli.proofs.Conversions.{run_commits}
@@ -12,14 +12,14 @@ returns-clause-usage g c two = c.perform-done.ensures.usage (run_usage c.perform
 
 pub returns-clause-lines : goal.returns-clause-lines
 returns-clause-lines g c =
-    run_lines (g.S.Shelf.told c.args.shelf.now) (λ held. outcome_of held (map string_bytes c.args.words.now)) c.perform-done.result c.conclude.result
+    run_lines (g.S.Shelf.told c.args.shelf.now) (λ held. run_outcome held c.args.words.now) c.perform-done.result c.conclude.result
     0 0 0 0 (g.O.Sink.faults c.args.out.now) (g.O.Sink.faults c.perform-done.new.out) (g.O.Sink.faults c.conclude.new.out)
     (g.O.Sink.written c.args.out.now) (g.O.Sink.written c.perform-done.new.out) (g.O.Sink.written c.conclude.new.out) None
     c.conclude.ensures.concludes c.perform-done.ensures.cause.later_puts c.perform-done.ensures.checked c.perform-done.ensures.part
 
 pub returns-clause-part : goal.returns-clause-part
 returns-clause-part g c =
-    run_part (g.S.Shelf.told c.args.shelf.now) (λ held. outcome_of held (map string_bytes c.args.words.now)) c.perform-done.result c.conclude.result
+    run_part (g.S.Shelf.told c.args.shelf.now) (λ held. run_outcome held c.args.words.now) c.perform-done.result c.conclude.result
     0 0 0 0 (g.O.Sink.faults c.args.out.now) (g.O.Sink.faults c.perform-done.new.out) (g.O.Sink.faults c.conclude.new.out)
     (g.O.Sink.written c.args.out.now) (g.O.Sink.written c.perform-done.new.out) (g.O.Sink.written c.conclude.new.out) None
     c.conclude.ensures.concludes c.perform-done.ensures.part
@@ -27,10 +27,10 @@ returns-clause-part g c =
 pub returns-clause-commits : goal.returns-clause-commits
 returns-clause-commits g c =
     let told = g.S.Shelf.told c.args.shelf.now in
-    let words = map string_bytes c.args.words.now in
+    let words = c.args.words.now in
     let held' = held_of (g.S.Shelf.told c.perform-done.new.shelf) in
     let w = g.O.Sink.written c.args.out.now in
     let w1 = g.O.Sink.written c.perform-done.new.out in
     let w2 = g.O.Sink.written c.conclude.new.out in
-    let done = run_done told (λ held. outcome_of held words) c.perform-done.result c.conclude.result 0 0 0 0 0 (g.O.Sink.faults c.perform-done.new.out) (g.O.Sink.faults c.conclude.new.out) w w1 w2 held' c.conclude.ensures.concludes c.perform-done.ensures.done in
-    run_commits told (command_of words) c.conclude.result held' w w2 done
+    let done = run_done told (λ held. run_outcome held words) c.perform-done.result c.conclude.result 0 0 0 0 0 (g.O.Sink.faults c.perform-done.new.out) (g.O.Sink.faults c.conclude.new.out) w w1 w2 held' c.conclude.ensures.concludes c.perform-done.ensures.done in
+    run_commits told (command_in words) c.conclude.result held' w w2 done
