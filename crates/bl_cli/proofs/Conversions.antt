@@ -24,10 +24,11 @@ use Rattle.bl_cli.specs.RawOutput.{raw_output}
 use Rattle.bl_commands.specs.Checks.{first_ending, ending_if}
 use Rattle.bl_cli.specs.Convert.{no_header, header_in, blocks_in, raw_file_in, catalogue_fault, has_struct_block, format_checks, bytes_held, convert_checks}
 use Rattle.bl_cli.specs.Outcome.{convert_outcome, command_outcome}
-use Rattle.bl_cli.specs.Conversion.{IsConversion, IsCommitted, CommitsConversion}
+use Rattle.bl_cli.specs.Conversion.{IsAccepted, IsConversion, IsCommitted, CommitsConversion}
 use Rattle.bl_cli.specs.Run.{IsDone}
 use Rattle.bl_cli.proofs.Outputs.{all_copied, nodes_few}
 use Rattle.bl_cli.proofs.ReadsBack.{output_reads}
+use Rattle.bl_cli.proofs.AcceptedBack.{accepted_again}
 
 -- ---- a check that passes
 
@@ -95,13 +96,18 @@ converts_bytes name b all =
     let blocks : blocks_of (header_in b) b ≡ Ok (blocks_in b) = value_of (blocks_of (header_in b) b) [] (no_fault (block_ending name) (result_err (blocks_of (header_in b) b)) second.0) in
     let facts = header_facts b (header_in b) header in
     let few : length (blocks_in b) ≤ most_blocks = blocks_of_few b (header_in b) (blocks_in b) blocks in
-    record {
-      file = raw_file_in b;
+    let accepted : IsAccepted b (raw_file_in b) = record {
       reads = reading_of_blocks b (header_in b) (blocks_in b) header blocks;
+      few = few;
       one_catalogue = one_catalogue (catalogues_in (blocks_in b)) (no_fault (BadFile name) (catalogue_fault (catalogues_in (blocks_in b))) third.0);
       raw = raw_nodes (blocks_in b) (fails_not (has_struct_block (blocks_in b)) (BadFile name NotBuilt) fourth.0);
+    } in
+    let back = output_reads b (raw_file_in b) facts.oldest facts.newest (nodes_few (blocks_in b) most_blocks few) (all_copied b (header_in b) (blocks_in b) blocks) in
+    record {
+      file = raw_file_in b;
+      accepted = accepted;
       written = refl;
-      reads_back = output_reads b (raw_file_in b) facts.oldest facts.newest (nodes_few (blocks_in b) most_blocks few) (all_copied b (header_in b) (blocks_in b) blocks);
+      accepted_back = accepted_again b (raw_output b (raw_file_in b)) (raw_file_in b) accepted back;
     }
 
 -- where no check of convert gives an ending, its effect is committed as a conversion

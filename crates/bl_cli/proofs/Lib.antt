@@ -1,4 +1,5 @@
 pub mod ReadsBack
+pub mod AcceptedBack
 pub mod Catalogues
 pub mod Converts
 pub mod Outputs
