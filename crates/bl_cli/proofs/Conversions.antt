@@ -36,19 +36,19 @@ passes : (check : Option Ending) (checks : List (Option Ending)) → first_endin
 passes None checks is = (refl, is)
 passes (Some e) checks is = cc
 
-fails_not : (test : Bool) (e : Ending) → ending_if test e ≡ None → test ≡ false
+pub fails_not : (test : Bool) (e : Ending) → ending_if test e ≡ None → test ≡ false
 fails_not true e is = cc
 fails_not false e is = refl
 
-no_fault : {A : Type 0} (f : A → Ending) (o : Option A) → option_map f o ≡ None → o ≡ None
+pub no_fault : {A : Type 0} (f : A → Ending) (o : Option A) → option_map f o ≡ None → o ≡ None
 no_fault f None is = refl
 no_fault f (Some a) is = cc
 
-value_of : {A E : Type 0} (r : Result A E) (other : A) → result_err r ≡ None → r ≡ Ok (result_unwrap_or r other)
+pub value_of : {A E : Type 0} (r : Result A E) (other : A) → result_err r ≡ None → r ≡ Ok (result_unwrap_or r other)
 value_of (Ok a) other is = refl
 value_of (Err e) other is = cc
 
-bytes_of_held : (o : Option (List ℕ)) → is_none o ≡ false → o ≡ Some (unwrap_or o [])
+pub bytes_of_held : (o : Option (List ℕ)) → is_none o ≡ false → o ≡ Some (unwrap_or o [])
 bytes_of_held None is = cc
 bytes_of_held (Some b) is = refl
 
@@ -57,7 +57,7 @@ one_catalogue [] is = cc
 one_catalogue (x ∷ []) is = refl
 one_catalogue (x ∷ y ∷ ys) is = cc
 
-abbrev IsRaw : Head → Type 0
+abbrev pub IsRaw : Head → Type 0
 IsRaw x = x.index ≡ 0
 
 rest_raw : (here rest : Bool) → (here || rest) ≡ false → rest ≡ false

@@ -6,3 +6,4 @@ pub mod Outputs
 pub mod Runs
 pub mod Built
 pub mod Conversions
+pub mod Refusals

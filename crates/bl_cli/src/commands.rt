@@ -7,6 +7,7 @@ ghost use Rattle.bl_shelf.specs.Told.{held_of};
 ghost use Rattle.bl_shelf.specs.Written.{GrowsByPrefix};
 ghost use Rattle.bl_cli.specs.Conversion.{CommitsConversion};
 ghost use Rattle.bl_cli.specs.Outcome.{command_in, command_outcome, run_outcome};
+ghost use Rattle.bl_cli.specs.Refusal.{HasCauseIn};
 ghost use Rattle.bl_cli.specs.Run.{Concludes, IsBuilt, IsCaused, IsChecked, IsDone, IsFromOutside, IsLeft, IsSpelled, IsUnspelled, LeavesFiles, PutsLines, Reports, outcome_status, own_line};
 
 use crate::convert::convert;
@@ -118,10 +119,13 @@ pub fn run<S: Shelf, O: Sink>(alloc: Global, words: &[String], shelf: &mut S, ou
     ensures room { S.room shelf.new ≡ None }
 
     // The status is that of the first check of the command that gives an ending, and 0 where none
-    // does, unless memory, a device or the sink ended the run.
+    // does, unless memory, a device or the sink ended the run. Such an ending has its cause in the
+    // files by what these read as, and where there is none, the run is done.
     ensures checked { IfSome (S.told shelf.old) (λ t.
         (result ≡ outcome_status (run_outcome t.held words.now))
         ⊎ IsFromOutside result) }
+    ensures causes { IfSome (S.told shelf.old) (λ t.
+        IfErr (run_outcome t.held words.now) (HasCauseIn (command_in words.now) t.held)) }
     ensures complete { IfSome (S.told shelf.old) (λ t.
         IsOk (run_outcome t.held words.now)
         → ¬ Rose (S.faults shelf.old) (S.faults shelf.new)

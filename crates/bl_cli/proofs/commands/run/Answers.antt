@@ -4,6 +4,7 @@ use Rattle.bl_cli.specs.Outcome.{command_in, run_outcome}
 use Rattle.bl_commands.specs.Commands.{command_of}
 use Rattle.bl_shelf.specs.Told.{held_of}
 use Rattle.bl_cli.proofs.Conversions.{run_commits}
+use Rattle.bl_cli.proofs.Refusals.{run_caused}
 use Rattle.bl_cli.proofs.Runs.{run_done, run_lines, run_part, run_usage}
 use Rattle.bl_cli.proofs.commands.run.Goals as goal
 
@@ -34,3 +35,6 @@ returns-clause-commits g c =
     let w2 = g.O.Sink.written c.conclude.new.out in
     let done = run_done told (λ held. run_outcome held words) c.perform-done.result c.conclude.result 0 0 0 0 0 (g.O.Sink.faults c.perform-done.new.out) (g.O.Sink.faults c.conclude.new.out) w w1 w2 held' c.conclude.ensures.concludes c.perform-done.ensures.done in
     run_commits told (command_in words) c.conclude.result held' w w2 done
+
+pub returns-clause-causes : goal.returns-clause-causes
+returns-clause-causes g c = run_caused (g.S.Shelf.told c.args.shelf.now) (command_in c.args.words.now)
