@@ -54,18 +54,18 @@ class Writer:
         self.length = self.file.tell()
 
 
-def make(path, mebibytes):
+def make(path, mebibytes, small):
     draw = random.Random(1)
     noise = memoryview(draw.randbytes(MEBIBYTE))
-    small = max(1, round(mebibytes * SMALL_BLOCKS_A_MEBIBYTE))
-    size = mebibytes * MEBIBYTE // 2 // small - len(catalogue.head(b"DATA", 0))
+    size = max(0, mebibytes * MEBIBYTE // 2 // small - len(catalogue.head(b"DATA", 0)))
+    spread = min(8, size)
     with open(path, "wb", buffering=MEBIBYTE) as file:
         writer = Writer(file)
         writer.block(draw, [noise] * (mebibytes // 2))
         writer.catalogue(draw)
         for _ in range(small):
             # Some blocks are a little longer, others as much shorter.
-            length = size + draw.randint(-8, 8)
+            length = size + draw.randint(-spread, spread)
             start = draw.randrange(len(noise) - length)
             writer.block(draw, [noise[start:start + length]])
         writer.end()
@@ -118,8 +118,8 @@ def faults(folder, writer, lines):
         yield "the output doesn't convert to itself"
 
 
-def bench(folder, mebibytes, rounds):
-    writer = make(folder / "input", mebibytes)
+def bench(folder, mebibytes, small, rounds):
+    writer = make(folder / "input", mebibytes, small)
     os.sync()
     digest(folder / "input")
     print(f"{writer.blocks} blocks and the catalogue, {writer.length} bytes; load {os.getloadavg()[0]:.1f}")
@@ -135,15 +135,18 @@ def bench(folder, mebibytes, rounds):
 def main():
     words = argparse.ArgumentParser(description=__doc__)
     words.add_argument("--mebibytes", type=int, default=512, help="the size of the file, 2 to 1000")
+    words.add_argument("--blocks", type=int,
+                       help="how many small blocks, 1 to 4000000; 391 a mebibyte if left out")
     words.add_argument("--rounds", type=int, default=5, help="how often both are run")
     words.add_argument("--folder", help="where the temporary folder is made")
     given = words.parse_args()
-    if not 2 <= given.mebibytes <= 1000:
-        words.error("a size of 2 to 1000")
+    small = given.blocks or round(given.mebibytes * SMALL_BLOCKS_A_MEBIBYTE)
+    if not 2 <= given.mebibytes <= 1000 or not 1 <= small <= 4_000_000 or given.rounds < 1:
+        words.error("a size of 2 to 1000, 1 to 4000000 blocks, a round at least")
     if run([LAUNCHER], ".")[0] != 2:
         sys.exit("the program isn't built")
     with tempfile.TemporaryDirectory(dir=given.folder) as folder:
-        return bench(pathlib.Path(folder), given.mebibytes, given.rounds)
+        return bench(pathlib.Path(folder), given.mebibytes, small, given.rounds)
 
 
 if __name__ == "__main__":

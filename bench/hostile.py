@@ -26,6 +26,9 @@ BEFORE = b"what the output was"
 EDGES = (0, 1, 3, 4, 2 ** 16, 2 ** 31 - 1, 2 ** 31, 2 ** 32 - 1)
 FORMS = tuple(itertools.product((4, 8), "<>"))
 CODES = (b"DATA", b"REND", b"TEST", b"GLOB", b"OB", b"LI", b"ID", b"\0\0\0\0")
+# What may stand at a place of a header: marks of compressed files, marks, versions.
+HEADERS = ((0, b"\x1f\x8b"), (0, b"\x28\xb5\x2f\xfd"), (0, b"blender"), (7, b"_"), (7, b"-"), (8, b"v"), (8, b"V"),
+           (9, b"249"), (9, b"250"), (9, b"499"), (9, b"500"), (9, b"4"), (11, b":"))
 LINES = {0: b"blocks ", 6: b"bad file input: ", 9: b"limit "}
 
 
@@ -96,8 +99,9 @@ def flip_bit(draw, file):
     return bytes(file)
 
 
-def flip_header(draw, file):
-    file[draw.randrange(12)] = draw.choice(b"\0\x1f\x28-_vV0259" + draw.randbytes(1))
+def change_header(draw, file):
+    place, spelled = draw.choice(HEADERS)
+    file[place:place + len(spelled)] = spelled
     return bytes(file)
 
 
@@ -111,7 +115,7 @@ def insert_bytes(draw, file):
 
 
 PARTS = (keep, keep, change_field, change_field, change_code, double_block, drop_block, drop_end)
-BYTES = (as_made, as_made, flip_bytes, flip_bit, flip_header, cut_short, insert_bytes)
+BYTES = (as_made, as_made, flip_bytes, flip_bit, change_header, cut_short, insert_bytes)
 
 
 def made(seed):

@@ -47,10 +47,6 @@ impl Counts {
     }
 }
 
-// How many bytes are written at a time. Many more make a system look for long runs of free
-// memory, which is slow where it has few.
-const PIECE: usize = 128 * 1024;
-
 // A file that stays open, so that it is read without being opened again.
 #[derive(Drop)]
 struct NamedFile<F> {
@@ -115,14 +111,6 @@ fn open_sized<R: Files>(host: &R, name: &str) -> io::Result<(R::File, u64)>
 fn read_part<F: Read + Seek>(file: &mut F, at: u64, dst: &mut [u8]) -> io::Result<()> {
     file.seek(SeekFrom::Start(at))?;
     file.read_exact(dst)
-}
-
-// Writes bytes piece by piece.
-fn write_pieces<F: Write>(file: &mut F, bytes: &[u8]) -> io::Result<()> {
-    for piece in bytes.chunks(PIECE) {
-        file.write_all(piece)?;
-    }
-    Ok(())
 }
 
 // The place of the file of this name.
@@ -218,7 +206,7 @@ impl<R: Files + Drop> Shelf for FolderShelf<R> {
     fn push(&mut self, bytes: &[u8]) -> Result<(), ShelfFault> {
         match &mut self.staged {
             None => Ok(()),
-            Some(part) => match write_pieces(&mut part.file, bytes) {
+            Some(part) => match part.file.write_all(bytes) {
                 Ok(()) => {
                     part.room -= bytes.len() as u64;
                     Ok(())
