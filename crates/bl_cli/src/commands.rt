@@ -112,7 +112,14 @@ fn conclude<O: Sink>(alloc: Global, done: Result<(), Ending>, out: &mut O) -> u8
     }
 }
 
-/// Does what the words spell, and answers the status.
+/// Does what the words spell, and answers the status of the process: 0 where it is done; 2 where
+/// the words spell no command; 3 where memory is wanted; 4 where the input isn't held; 5 where a
+/// device of the shelf failed; 6 where the input is refused; 9 where it passes a limit; 10 where
+/// the sink failed.
+///
+/// The line of what is done is put before the output is committed. Every other run but one that
+/// ends with 10 puts a line of what ended it. The output may be held after 0, and after 3 and 5
+/// where the commit itself failed; after all others what is held is what was.
 pub fn run<S: Shelf, O: Sink>(alloc: Global, words: &[String], shelf: &mut S, out: &mut O) -> u8
     requires { S.room shelf.old ≡ None }
     ensures statuses { (result ≡ 0) ⊎ ((2 ≤ result) × (result ≤ 10)) }

@@ -32,8 +32,8 @@ fn node_count(blocks: &[Head]) -> usize
     blocks.iter().filter(|block| !is_catalogue(block)).count()
 }
 
-// What becomes of an input's bytes.
-fn converted(alloc: Global, input: &str, bytes: &[u8]) -> Result<Output, Ending>
+// Converts bytes, and tells of it in a line.
+fn convert_bytes(alloc: Global, input: &str, bytes: &[u8]) -> Result<Output, Ending>
     ensures ok { IfOk result (IsOutputOf input.now bytes.now) }
     ensures checked { IfErr result (IsChecked (first_ending (format_checks input.now bytes.now))) }
     ensures inside { IfErr result IsInside }
@@ -49,8 +49,8 @@ fn converted(alloc: Global, input: &str, bytes: &[u8]) -> Result<Output, Ending>
     }
 }
 
-// Reads an input, and prepares what becomes of it.
-fn prepared<S: Shelf>(alloc: Global, input: &str, shelf: &mut S) -> Result<Output, Ending>
+// Reads an input, and converts its bytes.
+fn prepare<S: Shelf>(alloc: Global, input: &str, shelf: &mut S) -> Result<Output, Ending>
     ensures told { S.told shelf.new ≡ S.told shelf.old }
     ensures room { S.room shelf.new ≡ S.room shelf.old }
     ensures known { IfOk result (λ output. IfSome (S.told shelf.old) (λ t. (name : List ℕ)
@@ -64,7 +64,7 @@ fn prepared<S: Shelf>(alloc: Global, input: &str, shelf: &mut S) -> Result<Outpu
 {
     match read_input(alloc, input, shelf) {
         Err(ending) => Err(ending),
-        Ok(bytes) => converted(alloc, input, &bytes),
+        Ok(bytes) => convert_bytes(alloc, input, &bytes),
     }
 }
 
@@ -88,14 +88,16 @@ pub fn convert<S: Shelf, O: Sink>(
 
     // What an ending leaves, and which part of the line is put.
     ensures left { IfErr result (λ ending. IfSome (S.told shelf.old) (λ t.
-        IsLeft (convert_outcome t.held input.now name.now) t.held (held_of (S.told shelf.new)) ending)) }
+        IsLeft (convert_outcome t.held input.now name.now) t.held (held_of (S.told shelf.new))
+        ending)) }
     ensures part { OnErr result (IfSome (S.told shelf.old) (λ t.
-        GrowsByPrefix (O.written out.old) (own_line (convert_outcome t.held input.now name.now)) (O.written out.new))) }
+        GrowsByPrefix (O.written out.old) (own_line (convert_outcome t.held input.now name.now))
+        (O.written out.new))) }
     ensures cause { IsCaused (S.misses shelf.old) (S.misses shelf.new) (S.faults shelf.old)
         (S.faults shelf.new) (O.faults out.old) (O.faults out.new) result }
     ensures spelled { IfErr result IsSpelled }
 {
-    match prepared(alloc, input, shelf) {
+    match prepare(alloc, input, shelf) {
         Err(ending) => Err(ending),
         Ok(output) => store(name, &output.bytes, &output.line, shelf, out),
     }

@@ -13,8 +13,8 @@ use bl_num::Text;
 use bl_shelf::{Shelf, ShelfFault, Sink, SinkFault};
 use std::alloc::{AllocError, Global};
 
-/// The most bytes of all input files of a run.
-pub const MAX_INPUT_BYTES: u64 = 1 << 30;
+// The most bytes of an input file.
+const MAX_INPUT_BYTES: u64 = 1 << 30;
 
 /// A name as an owned text.
 pub fn text_of(alloc: Global, name: &str) -> Result<Text, AllocError>
@@ -24,7 +24,7 @@ pub fn text_of(alloc: Global, name: &str) -> Result<Text, AllocError>
 }
 
 // What a fault of a call that reads a file ends a run with.
-fn reading_ended(alloc: Global, fault: ShelfFault, name: &str) -> Ending
+fn reading_ending(alloc: Global, fault: ShelfFault, name: &str) -> Ending
     ensures { IsReadingEnding fault name.now result }
 {
     match fault {
@@ -41,8 +41,10 @@ fn reading_ended(alloc: Global, fault: ShelfFault, name: &str) -> Ending
 pub fn read_input<S: Shelf>(alloc: Global, name: &str, shelf: &mut S) -> Result<Vec<u8>, Ending>
     ensures told { S.told shelf.new ≡ S.told shelf.old }
     ensures room { S.room shelf.new ≡ S.room shelf.old }
-    ensures cause { IsCaused (S.misses shelf.old) (S.misses shelf.new) (S.faults shelf.old) (S.faults shelf.new) 0 0 result }
-    ensures bytes { IfOk result (λ bytes. IfSome (S.told shelf.old) (λ t. bytes_under name.now t ≡ Some bytes.items)) }
+    ensures cause { IsCaused (S.misses shelf.old) (S.misses shelf.new) (S.faults shelf.old)
+        (S.faults shelf.new) 0 0 result }
+    ensures bytes { IfOk result (λ bytes. IfSome (S.told shelf.old) (λ t.
+        bytes_under name.now t ≡ Some bytes.items)) }
     ensures small { IfOk result (λ bytes. length bytes.items ≤ most_input_bytes) }
     ensures checked { IfErr result (λ ending. IfSome (S.told shelf.old) (λ t.
         IsChecked (first_ending (opening_checks name.now (bytes_under name.now t))) ending)) }
@@ -50,7 +52,7 @@ pub fn read_input<S: Shelf>(alloc: Global, name: &str, shelf: &mut S) -> Result<
 {
     let size = match shelf.size(name) {
         Ok(size) => size,
-        Err(fault) => return Err(reading_ended(alloc, fault, name)),
+        Err(fault) => return Err(reading_ending(alloc, fault, name)),
     };
     if size > MAX_INPUT_BYTES {
         return Err(Ending::PastLimit {
@@ -61,12 +63,12 @@ pub fn read_input<S: Shelf>(alloc: Global, name: &str, shelf: &mut S) -> Result<
     let mut bytes = vec![in alloc; 0; size as usize]?;
     match shelf.read_at(name, 0, &mut bytes) {
         Ok(()) => Ok(bytes),
-        Err(fault) => Err(reading_ended(alloc, fault, name)),
+        Err(fault) => Err(reading_ending(alloc, fault, name)),
     }
 }
 
 // What a fault of a call that stores a file ends a run with.
-fn storing_ended(fault: ShelfFault) -> Ending
+fn storing_ending(fault: ShelfFault) -> Ending
     ensures { result ≡ storing_ending fault }
 {
     match fault {
@@ -88,8 +90,8 @@ pub fn store<S: Shelf, O: Sink>(
     ensures held { OnOk result (held_of (S.told shelf.new)
         ≡ with_file name.now bytes.now (held_of (S.told shelf.old))) }
     ensures line { OnOk result (Grows (O.written out.old) line.now (O.written out.new)) }
-    ensures left { IfErr result (λ ending. IsUnstored name.now bytes.now (held_of (S.told shelf.old))
-        (held_of (S.told shelf.new)) ending) }
+    ensures left { IfErr result (λ ending. IsUnstored name.now bytes.now
+        (held_of (S.told shelf.old)) (held_of (S.told shelf.new)) ending) }
     ensures part { GrowsByPrefix (O.written out.old) line.now (O.written out.new) }
     ensures cause { IsCaused (S.misses shelf.old) (S.misses shelf.new) (S.faults shelf.old)
         (S.faults shelf.new) (O.faults out.old) (O.faults out.new) result }
@@ -97,13 +99,13 @@ pub fn store<S: Shelf, O: Sink>(
 {
     match shelf.stage(name, bytes.len() as u64) {
         Ok(()) => {}
-        Err(fault) => return Err(storing_ended(fault)),
+        Err(fault) => return Err(storing_ending(fault)),
     }
     match shelf.push(bytes) {
         Ok(()) => {}
         Err(fault) => {
             shelf.abandon();
-            return Err(storing_ended(fault));
+            return Err(storing_ending(fault));
         }
     }
     match out.put(line) {
@@ -119,6 +121,6 @@ pub fn store<S: Shelf, O: Sink>(
     }
     match shelf.commit() {
         Ok(()) => Ok(()),
-        Err(fault) => Err(storing_ended(fault)),
+        Err(fault) => Err(storing_ending(fault)),
     }
 }

@@ -7,15 +7,13 @@ mod files;
 mod raw_file;
 mod raw_output;
 
+use bl_lines::{Ending, status_of};
 use bl_shelf::{FolderShelf, StdoutSink};
 pub use commands::run;
 use std::alloc::{AllocError, Global};
 use std::process::ExitCode;
 use std::rt::Env;
 use std::{env, io};
-
-// The status of want of memory.
-const NO_MEMORY: u8 = 3;
 
 // The words behind the program's name.
 fn words<R: Env + Alloc<A = Global>>(host: &R) -> io::Result<Vec<String>> {
@@ -33,7 +31,7 @@ fn main(host: HostRuntime) -> ExitCode {
         Err(error) if error.kind() == io::ErrorKind::InvalidData => {
             run(host.alloc(), &[], &mut shelf, &mut out)
         }
-        Err(_) => NO_MEMORY,
+        Err(_) => status_of(&Ending::NoMemory),
     };
     ExitCode::from(status)
 }

@@ -1,3 +1,4 @@
+// Reads a file of raw blocks.
 ghost use Rattle.std.specs.Prelude.{◌≡◌, None, OnOk, IfOk, IfErr};
 ghost use Rattle.bl_format.specs.Nodes.{is_catalogue, catalogues_in};
 ghost use Rattle.bl_commands.specs.Checks.{first_ending};
@@ -60,7 +61,7 @@ fn has_struct_block(blocks: &[Head]) -> bool
 }
 
 // What a file that is refused ends a run with.
-fn refused(alloc: Global, name: &str, fault: FileFault) -> Ending
+fn refusal(alloc: Global, name: &str, fault: FileFault) -> Ending
     ensures { IsRefusal name.now fault result }
 {
     match text_of(alloc, name) {
@@ -85,10 +86,10 @@ pub fn open_raw(alloc: Global, name: &str, bytes: &[u8]) -> Result<RawFile, Endi
         Err(fault) => return Err(block_ending(text_of(alloc, name)?, fault)),
     };
     match catalogue_fault(&blocks) {
-        Some(fault) => Err(refused(alloc, name, fault)),
+        Some(fault) => Err(refusal(alloc, name, fault)),
         None => {
             if has_struct_block(&blocks) {
-                Err(refused(alloc, name, FileFault::NotBuilt))
+                Err(refusal(alloc, name, FileFault::NotBuilt))
             } else {
                 Ok(RawFile {
                     header,

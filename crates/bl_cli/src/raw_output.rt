@@ -15,7 +15,7 @@ use std::alloc::{AllocError, Global};
 // The bytes of the longest head.
 const LONGEST_HEAD: usize = 24;
 
-// Node k, from 1, has address 16 * k.
+// Node k, from 0, has address 16 * (k + 1).
 const ADDRESS_STEP: u64 = 16;
 
 // The bytes behind a head.

@@ -40,7 +40,8 @@ const SMALL_CONVERTED: &[u8] = b"BLENDER-v405\
     DNA1\x08\0\0\0\0\0\0\0\0\0\0\0\0\0\0\0\x01\0\0\0SDNANAME\
     ENDB\0\0\0\0\0\0\0\0\0\0\0\0\0\0\0\0\0\0\0\0";
 
-// Wide to narrow numbers, the catalogue in front, and a code of two letters with its zeros last.
+// Pointers of 4 bytes, the highest byte first; the catalogue in front, and bytes behind the end; a
+// code of two letters that is written with its zeros first.
 const NARROW: &[u8] = b"BLENDER_V279\
     DNA1\0\0\0\x01\0\0\0\0\0\0\0\0\0\0\0\x01S\
     OB\0\0\0\0\0\x02\0\0\x12\x34\0\0\0\0\0\0\0\x03xy\
@@ -66,6 +67,13 @@ fn converts(rt: HostRuntime) -> Result<(), Fail> {
         assert_eq!(rt; shelf.bytes_of("b").ok_or("absent")?, converted);
         assert_eq!(rt; shelf.bytes_of("a").ok_or("absent")?, file);
     }
+
+    // The output may take the input's place.
+    let mut shelf = shelf_of(alloc, SMALL, Vec::new(alloc), false)?;
+    let mut sink = MemorySink::new(alloc, Vec::new(alloc));
+    let words = words(alloc, &["convert", "a", "a"])?;
+    assert_eq!(rt; run(alloc, &words, &mut shelf, &mut sink), 0);
+    assert_eq!(rt; shelf.bytes_of("a").ok_or("absent")?, SMALL_CONVERTED);
     Ok(())
 }
 
@@ -161,6 +169,13 @@ fn leaves_what_was_held_where_a_device_fails(rt: HostRuntime) -> Result<(), Fail
     assert_eq!(rt; run(alloc, &all, &mut shelf, &mut sink), 5);
     assert_eq!(rt; shelf.bytes_of("b").ok_or("absent")?, SMALL_CONVERTED);
     assert_eq!(rt; sink.bytes(), b"blocks 1 bytes 96\ndevice\n".as_slice());
+
+    // The status stays where the line of what ended the run can't be put.
+    let mut shelf = shelf_of(alloc, SMALL, Vec::new(alloc), false)?;
+    let mut sink = MemorySink::new(alloc, vec![in alloc; 0]?);
+    let absent = words(alloc, &["convert", "c", "b"])?;
+    assert_eq!(rt; run(alloc, &absent, &mut shelf, &mut sink), 4);
+    assert_eq!(rt; sink.bytes(), b"".as_slice());
 
     // The sink fails at the summary.
     let mut shelf = shelf_of(alloc, SMALL, Vec::new(alloc), false)?;
