@@ -20,6 +20,7 @@ impl Model for Word {
 }
 
 impl Word {
+    /// A copy of a text; it fails only for want of memory.
     pub fn from_str(alloc: Global, text: &str) -> Result<Word, NoMemory>
         ensures { IfOk result (λ word. word ≡ text.now) }
     {
@@ -27,6 +28,7 @@ impl Word {
         Ok(Word { text })
     }
 
+    /// The word as a text.
     pub fn as_str(&self) -> &str
         ensures { result.now ≡ self.now }
     {

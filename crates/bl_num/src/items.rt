@@ -21,12 +21,14 @@ impl<T> Model for Items<T> {
 }
 
 impl<T> Items<T> {
+    /// The elements of a `Vec`, without memory.
     pub fn from_vec(items: Vec<T>) -> Items<T>
         ensures { result ≡ items.items }
     {
         Items { items }
     }
 
+    /// The elements.
     pub fn as_slice(&self) -> &[T]
         ensures { result.now ≡ self.now }
     {
@@ -56,12 +58,14 @@ impl Model for Text {
 }
 
 impl Text {
+    /// The bytes of a `Vec`, without memory.
     pub fn from_vec(bytes: Vec<u8>) -> Text
         ensures { result ≡ bytes.items }
     {
         Text { bytes }
     }
 
+    /// The bytes.
     pub fn as_slice(&self) -> &[u8]
         ensures { result.now ≡ self.now }
     {

@@ -110,7 +110,7 @@ made_kinds : map kind_of (selection_graph (arrays ∷ []) draft)
 unfolding selecting
 made_kinds = refl
 
--- the file that is written, as an independent program writes it
+-- the file that is to be written
 abbrev made_bytes : List ℕ
 made_bytes =
     codes "BLENDER_V300"

@@ -259,7 +259,7 @@ abbrev pub pointers : File
 pointers = file (header_8 405) example_8 pointers_bytes
     (head (code "ME") 144 16 4 1 12 ∷ head (code "DATA") 28 32 0 1 180 ∷ [])
 
--- the bytes of the same with pointers of 4 bytes, as two independent programs write it
+-- the bytes of the same with pointers of 4 bytes
 abbrev pub pointers_narrow_bytes : List ℕ
 pointers_narrow_bytes =
     codes "BLENDER_v405"
@@ -271,7 +271,7 @@ pointers_narrow_bytes =
     ++ narrow_payload
     ++ codes "ENDB" ++ zeros 16
 
--- the same with pointers of 4 bytes, as two independent programs write it
+-- the same with pointers of 4 bytes
 abbrev pub pointers_narrow : File
 pointers_narrow = file (header_4 405) example_4 pointers_narrow_bytes
     (head (code "ME") 112 16 4 1 12 ∷ head (code "DATA") 12 32 0 1 144 ∷ [])
@@ -329,7 +329,7 @@ without_mesh = catalogue
     ∷ (11, (10, 7) ∷ (0, 8) ∷ [])
     ∷ (12, (10, 7) ∷ (12, 9) ∷ (8, 10) ∷ (6, 11) ∷ (2, 12) ∷ (0, 13) ∷ []) ∷ [])
 
--- what is left of it under a catalogue without struct `Mesh`, as two independent programs write it
+-- what is to be left of it under a catalogue without struct `Mesh`
 abbrev pub object_alone_bytes : List ℕ
 object_alone_bytes =
     codes "BLENDER-v405"

@@ -56,7 +56,7 @@ text_extended : carried (text (codes "name[66]") 66) (text (codes "name[70]") 70
 unfolding selecting letters
 text_extended = refl
 
--- ---- members of many shapes, against two independent programs
+-- ---- members of many shapes
 
 -- value by value
 shapes_value_by_value :

@@ -1,4 +1,4 @@
--- What append, link and resolve make of files, against two independent programs.
+-- What append, link and resolve make of files, against what is to come of them.
 use Rattle.std.proofs.Common.{◌≡◌, ℕ, List, [], ◌∷◌, None, Some, refl}
 use Rattle.std.specs.Prelude.{map, codes, if◌then◌else◌}
 use Rattle.std.specs.Str.{bytes_eq}

@@ -1,5 +1,5 @@
 -- Files of odd catalogues: counters of one byte or without elements, a library whose `name` is a pointer, a
--- group without a head; and what two independent programs make of them.
+-- group without a head; and what is to come of them.
 use Rattle.std.specs.Prelude.{ℕ, List, [], ◌∷◌, ◌++◌, codes}
 use Rattle.bl_format.specs.declared.catalogue.Catalogue.{Catalogue}
 use Rattle.bl_format.specs.Words.{zeros}

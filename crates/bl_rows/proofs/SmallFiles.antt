@@ -1,5 +1,5 @@
 -- Files of two small catalogues with pointers of 4 bytes, whose libraries keep their paths in members of
--- different names; and what two independent programs make of them.
+-- different names; and what is to come of them.
 use Rattle.std.specs.Prelude.{ℕ, List, [], ◌∷◌, ◌++◌, codes}
 use Rattle.bl_format.specs.declared.catalogue.Catalogue.{Catalogue}
 use Rattle.bl_format.specs.Words.{zeros}

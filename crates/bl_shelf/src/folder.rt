@@ -76,6 +76,7 @@ pub struct FolderShelf<R: Files + Drop> {
 }
 
 impl<R: Files + Drop> FolderShelf<R> {
+    /// The files of the host's current folder, none of which is open yet.
     pub fn new(alloc: Global, host: R) -> Self
         ensures room { ⟦<FolderShelf<R> as Shelf>⟧.room result ≡ None }
         ensures faults { ⟦<FolderShelf<R> as Shelf>⟧.faults result ≡ 0 }
@@ -268,6 +269,7 @@ mod tests {
 
         assert_eq!(rt; shelf.stage(name, 1), Ok(()));
         assert_eq!(rt; shelf.push(b"x"), Ok(()));
+        assert_eq!(rt; shelf.size("kept_by_folder_shelf.bl-part"), Ok(1));
         shelf.abandon();
         assert_eq!(rt;
             shelf.size("kept_by_folder_shelf.bl-part"),

@@ -32,6 +32,7 @@ impl<T: Drop> From<AllocFailed<T>> for SinkFault {
     }
 }
 
+/// Where bytes are put, one after another, as lines to a terminal are.
 pub trait Sink {
     /// The bytes that were put, where the sink tells them.
     ghost written: { Self → Option (List ℕ) };

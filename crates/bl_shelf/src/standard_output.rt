@@ -12,6 +12,7 @@ pub struct StdoutSink<R: Print + Drop> {
 }
 
 impl<R: Print + Drop> StdoutSink<R> {
+    /// The standard output of the host; no put has failed.
     pub fn new(host: R) -> Self
         ensures { ⟦<StdoutSink<R> as Sink>⟧.faults result ≡ 0 }
     {

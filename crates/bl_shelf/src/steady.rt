@@ -27,6 +27,7 @@ impl SteadyShelf {
     ghost use Rattle.bl_shelf.specs.Told.{empty_shelf, bytes_under, hold_in};
     ghost use Rattle.bl_shelf.specs.Steady.{steady_contents, steady_room, steady_misses};
 
+    /// A shelf without files.
     pub fn new(alloc: Global) -> Self
         ensures contents { steady_contents result ≡ empty_shelf }
         ensures room { steady_room result ≡ None }
