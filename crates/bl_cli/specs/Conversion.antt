@@ -36,6 +36,7 @@ pub record IsCommitted (held : Held) (held' : Option Held) (input out : List ℕ
   pub conversion : IsConversion old new
   pub committed : held' ≡ Some (insert held out new)
 
+-- a command commits a conversion; no other command that is built writes
 abbrev pub CommitsConversion : Option Command → Held → Option Held → Type 0
 CommitsConversion (Some (Convert input out options)) held held' = IsCommitted held held' input out
 CommitsConversion _ held held' = ⊥

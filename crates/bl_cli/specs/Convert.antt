@@ -22,15 +22,19 @@ use Rattle.bl_commands.specs.Checks.{ending_if}
 
 -- ---- the header and the blocks of some bytes; where there are none, any header and no blocks
 
+-- any header
 abbrev pub no_header : Header
 no_header = record { width = Eight; order = Little; version = 250 }
 
+-- the header of some bytes
 abbrev pub header_in : List ℕ → Header
 header_in b = result_unwrap_or (header_of b) no_header
 
+-- the blocks behind it
 abbrev pub blocks_in : List ℕ → List Head
 blocks_in b = result_unwrap_or (blocks_of (header_in b) b) []
 
+-- both
 abbrev pub raw_file_in : List ℕ → RawFile
 raw_file_in b = record { header = header_in b; blocks = blocks_in b }
 

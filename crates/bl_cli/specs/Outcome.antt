@@ -33,6 +33,7 @@ abbrev pub unless_ending : Option Ending → Effect → Result Effect Ending
 unless_ending (Some ending) effect = Err ending
 unless_ending None effect = Ok effect
 
+-- what convert does with the words IN and OUT, by what is held
 unfoldable pub convert_outcome : Held → List ℕ → List ℕ → Result Effect Ending
 convert_outcome held input out =
     unless_ending (first_ending (convert_checks held input)) (convert_effect (bytes_held held input) out)

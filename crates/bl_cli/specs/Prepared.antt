@@ -1,4 +1,4 @@
--- What is prepared before a file is stored.
+-- What is made of an input before it is stored.
 use Rattle.std.specs.Prelude.{◌≡◌, ℕ, List, None}
 use Rattle.bl_cli.specs.declared.convert.Output.{Output}
 use Rattle.bl_commands.specs.Checks.{first_ending}

@@ -17,6 +17,7 @@ use Rattle.bl_commands.specs.declared.ending.Quantity.TheVariants.{InputBytes}
 use Rattle.bl_commands.specs.Texts.{head_ending, block_ending}
 use Rattle.bl_shelf.specs.Told.{Held}
 
+-- what is wrong with an input
 pub data InputFault : Type 0 where
   TooLong : InputFault
   InHeader : (fault : HeadFault) → InputFault

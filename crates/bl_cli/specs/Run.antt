@@ -115,6 +115,7 @@ own_line (Err ending) = []
 
 -- ---- the status
 
+-- the status of an outcome
 abbrev pub outcome_status : Result Effect Ending → ℕ
 outcome_status (Ok effect) = 0
 outcome_status (Err ending) = status_of ending
@@ -123,6 +124,7 @@ outcome_status (Err ending) = status_of ending
 abbrev pub IsFromOutside : ℕ → Type 0
 IsFromOutside status = (status ≡ 3) ⊎ (status ≡ 5) ⊎ (status ≡ 10)
 
+-- the line that tells of an outcome, where it is an ending
 abbrev pub outcome_line : Result Effect Ending → Text
 outcome_line (Ok effect) = []
 outcome_line (Err ending) = fault_line ending
