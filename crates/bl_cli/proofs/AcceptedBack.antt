@@ -1,15 +1,14 @@
 -- The output of an accepted raw file has one catalogue, raw nodes, and as many blocks as its input.
-use Rattle.std.proofs.Common.{◌≡◌, ℕ, ◌+◌, ◌≤◌, Bool, true, false, List, [], ◌∷◌, ◌++◌, length, refl, sym, ap, subst, ◌∙◌, arith}
-use Rattle.std.specs.Prelude.{All, filter, map, not}
+use Rattle.std.proofs.Common.{◌≡◌, ℕ, ◌+◌, Bool, true, false, List, [], ◌∷◌, ◌++◌, length, refl, ap, ◌∙◌, arith}
+use Rattle.std.specs.Prelude.{All, map, not}
 use Rattle.std.proofs.lemmas.List.{length-append, length-map}
 use Rattle.std.proofs.lemmas.List.Elements.{All-nil, All-cons, All-head, All-tail, All-filter, filter_passes}
 use Rattle.bl_format.specs.declared.file.Header.{Header}
 use Rattle.bl_format.specs.declared.file.Head.{Head}
-use Rattle.bl_format.specs.Limits.{most_blocks}
 use Rattle.bl_format.specs.Blocks.{header_size, head_size, Reads}
 use Rattle.bl_format.specs.Nodes.{is_catalogue, catalogues_in, nodes_in}
 use Rattle.bl_cli.specs.declared.raw_file.RawFile.{RawFile}
-use Rattle.bl_cli.specs.RawOutput.{node_head, catalogue_head, node_heads, placed_from, output_blocks}
+use Rattle.bl_cli.specs.RawOutput.{catalogue_head, node_heads, placed_from, output_blocks}
 use Rattle.bl_cli.specs.Conversion.{IsAccepted}
 
 -- ---- how many blocks

@@ -1,7 +1,7 @@
 -- Each ending that the checks of `convert` give has its cause in the input.
-use Rattle.std.proofs.Common.{◌≡◌, ◌⊎◌, ◌<◌, ℕ, Bool, true, false, List, [], ◌∷◌, ◌++◌, length, Option, Some, None, Result, Ok, Err, refl, sym, ap, subst, ◌∙◌, inl, inr}
-use Rattle.std.specs.Prelude.{All, not, ◌&&◌, ◌||◌, ◌==◌, nat_lt, is_none, unwrap_or, option_map, IfErr, IfSome}
-use Rattle.std.specs.Result.{result_err, result_unwrap_or}
+use Rattle.std.proofs.Common.{◌≡◌, ◌⊎◌, ℕ, Bool, true, false, List, [], ◌∷◌, length, Option, Some, None, Result, Ok, Err, refl, ap, inl, inr}
+use Rattle.std.specs.Prelude.{All, not, ◌&&◌, ◌==◌, nat_lt, is_none, option_map, IfErr, IfSome}
+use Rattle.std.specs.Result.{result_err}
 use Rattle.std.specs.FinMap.{get}
 use Rattle.std.proofs.lemmas.Bool.{eq-eqb, ltb-true}
 use Rattle.std.proofs.lemmas.List.Elements.{All-head, All-tail}

@@ -1,8 +1,6 @@
-use Rattle.std.proofs.Common.{◌≡◌, Option, Some, map, sym, ◌∙◌, subst}
+use Rattle.std.proofs.Common.{◌≡◌, Option, Some, sym, ◌∙◌, subst}
 use Rattle.std.specs.Prelude.{OnErr, IfSome}
-use Rattle.std.specs.String.{string_bytes}
 use Rattle.bl_commands.specs.declared.command.Command.{Command}
-use Rattle.bl_commands.specs.Commands.{command_of}
 use Rattle.bl_shelf.specs.Written.{GrowsByPrefix}
 use Rattle.bl_cli.specs.Outcome.{command_in, command_outcome}
 use Rattle.bl_cli.specs.Run.{own_line}

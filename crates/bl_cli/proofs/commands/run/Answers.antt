@@ -1,7 +1,5 @@
-use Rattle.std.proofs.Common.{map, None}
-use Rattle.std.specs.String.{string_bytes}
+use Rattle.std.proofs.Common.{None}
 use Rattle.bl_cli.specs.Outcome.{command_in, run_outcome}
-use Rattle.bl_commands.specs.Commands.{command_of}
 use Rattle.bl_shelf.specs.Told.{held_of}
 use Rattle.bl_cli.proofs.Conversions.{run_commits}
 use Rattle.bl_cli.proofs.Refusals.{run_caused}
