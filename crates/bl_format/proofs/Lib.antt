@@ -10,3 +10,5 @@ pub mod Nesting
 pub mod OneReading
 pub mod StepBack
 pub mod HeaderFacts
+pub mod MemberPasses
+pub mod LeavesApart
