@@ -45,7 +45,7 @@ AreApart-leaf_behind step by from to [] h = omega arith
 AreApart-leaf_behind step by from to (x ∷ xs) h =
     (omega (arith, h.0), apart_from_before (by + x.offset + x.size * x.count) (by + end_of_leaf x) (by + to) (map (leaf_behind step by) xs) (omega arith) (AreApart-leaf_behind step by (end_of_leaf x) to xs h.1))
 
-flat_map-numbers_below : {X : Type 0} (f : ℕ → List X) (n : ℕ)
+pub flat_map-numbers_below : {X : Type 0} (f : ℕ → List X) (n : ℕ)
     → flat_map f (numbers_below (suc n)) ≡ flat_map f (numbers_below n) ++ (f n ++ [])
 flat_map-numbers_below f n = flat_map-append f (numbers_below n) (n ∷ [])
 

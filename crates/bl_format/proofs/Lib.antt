@@ -12,3 +12,4 @@ pub mod StepBack
 pub mod HeaderFacts
 pub mod MemberPasses
 pub mod LeavesApart
+pub mod LeafKinds
