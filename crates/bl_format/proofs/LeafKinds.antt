@@ -24,7 +24,7 @@ pub record HoldsOfOwn (P : NamedLeaf → Type 0) (c : Catalogue) (w : Width) : T
   pub behind : (step : MemberStep) (by : ℕ) (x : NamedLeaf) → P x → P (leaf_behind step by x)
   pub own : (s k : ℕ) → k < member_count c s → member_size c w s k ≢ 0 → P (own_leaf c w s k)
 
-each_number : {X : Type 0} (P : X → Type 0) (f : ℕ → List X) (n : ℕ)
+pub each_number : {X : Type 0} (P : X → Type 0) (f : ℕ → List X) (n : ℕ)
     → ((k : ℕ) → k < n → All P (f k)) → All P (flat_map f (numbers_below n))
 each_number P f zero h = All-nil P
 each_number P f (suc n) h =

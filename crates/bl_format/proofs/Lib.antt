@@ -13,3 +13,4 @@ pub mod HeaderFacts
 pub mod MemberPasses
 pub mod LeavesApart
 pub mod LeafKinds
+pub mod PathsDiffer
