@@ -14,3 +14,4 @@ pub mod MemberPasses
 pub mod LeavesApart
 pub mod LeafKinds
 pub mod PathsDiffer
+pub mod NoneInItself
