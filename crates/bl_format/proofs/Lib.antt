@@ -15,3 +15,4 @@ pub mod LeavesApart
 pub mod LeafKinds
 pub mod PathsDiffer
 pub mod NoneInItself
+pub mod NewLengths
