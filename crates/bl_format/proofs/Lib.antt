@@ -16,3 +16,4 @@ pub mod LeafKinds
 pub mod PathsDiffer
 pub mod NoneInItself
 pub mod NewLengths
+pub mod RewidthKeeps

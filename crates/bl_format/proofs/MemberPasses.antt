@@ -22,7 +22,7 @@ pub record MemberPasses (c : Catalogue) (w : Width) (s k : ℕ) : Type 0 where
   pub not_cyclic : leads_back c s (inner_struct c s k) ≡ false
   pub within : overruns c w s k ≡ false
 
-find_map-append : {X Y : Type 0} (f : X → Option Y) (xs ys : List X)
+pub find_map-append : {X Y : Type 0} (f : X → Option Y) (xs ys : List X)
     → find_map f (xs ++ ys) ≡ option_or (find_map f xs) (find_map f ys)
 find_map-append f [] ys = refl
 find_map-append {X} {Y} f (x ∷ xs) ys = rw (find_map-append f xs ys) (go (f x))
@@ -31,7 +31,7 @@ find_map-append {X} {Y} f (x ∷ xs) ys = rw (find_map-append f xs ys) (go (f x)
     go None = refl
     go (Some y) = refl
 
-neither : {Y : Type 0} (a b : Option Y) → option_or a b ≡ None → (a ≡ None) × (b ≡ None)
+pub neither : {Y : Type 0} (a b : Option Y) → option_or a b ≡ None → (a ≡ None) × (b ≡ None)
 neither None b e = (refl, e)
 neither (Some y) b e = absurd (cc)
 
@@ -113,7 +113,7 @@ pub record IsStructOf (c : Catalogue) (type_number s : ℕ) : Type 0 where
   pub within : s < length c.structs
   pub type_number_is : (struct_entry c s).type_number ≡ type_number
 
-is_struct_of : (c : Catalogue) (t s : ℕ) → struct_of_type c t ≡ Some s → IsStructOf c t s
+pub is_struct_of : (c : Catalogue) (t s : ℕ) → struct_of_type c t ≡ Some s → IsStructOf c t s
 is_struct_of c t s e =
     let h = place_of (λ (x : StructEntry). x.type_number == t) 0 c.structs s e in
     let same : s ≡ h.number = omega (arith, h.place) in
