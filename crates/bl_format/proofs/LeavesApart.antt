@@ -95,7 +95,7 @@ members_apart inside c w s (suc n) h =
 
 -- ---- the laws
 
-members_within : (c : Catalogue) (w : Width) (s n : ℕ) → n ≡ member_count c s
+pub members_within : (c : Catalogue) (w : Width) (s n : ℕ) → n ≡ member_count c s
     → first_fault c w ≡ None → member_offset c w s n ≤ struct_length c s
 unfolding member_offset
 members_within c w s zero is e = omega arith

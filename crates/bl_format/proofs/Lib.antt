@@ -17,3 +17,4 @@ pub mod PathsDiffer
 pub mod NoneInItself
 pub mod NewLengths
 pub mod RewidthKeeps
+pub mod RewidthLayout

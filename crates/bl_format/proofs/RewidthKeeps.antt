@@ -238,7 +238,7 @@ unfolding member_offset
 rewidth-member_offset c from to s k is e lt le =
     ap (λ (xs : List ℕ). sum xs) (map_same (member_size (rewidth c from to) to s) (new_size (new_length c from to) c to s) k (λ j below. rewidth-member_size c from to s j is e lt (omega arith)))
 
-sum_below-suc : (f : ℕ → ℕ) (n : ℕ) → sum (map f (numbers_below (suc n))) ≡ sum (map f (numbers_below n)) + f n
+pub sum_below-suc : (f : ℕ → ℕ) (n : ℕ) → sum (map f (numbers_below (suc n))) ≡ sum (map f (numbers_below n)) + f n
 sum_below-suc f n = rw (map-append f (numbers_below n) (n ∷ [])) (sum_by_push (λ (x : ℕ). x) (map f (numbers_below n)) (f n))
 
 sum_below-le : (f : ℕ → ℕ) (k n : ℕ) → k ≤ n → sum (map f (numbers_below k)) ≤ sum (map f (numbers_below n))
@@ -248,7 +248,7 @@ sum_below-le f k (suc n) le = elim (cases_lt k (suc n)) [
   | inr ge ↦ (let same : k ≡ suc n = omega arith in rw same (omega arith))
 ]
 
-tail_is : (c : Catalogue) (w : Width) (s : ℕ) → tail_of c w s ≡ struct_length c s - member_offset c w s (member_count c s)
+pub tail_is : (c : Catalogue) (w : Width) (s : ℕ) → tail_of c w s ≡ struct_length c s - member_offset c w s (member_count c s)
 unfolding tail_of
 tail_is c w s = refl
 
@@ -314,7 +314,7 @@ rewidth-member_fault c from to s k is e lt within =
     let back : leads_back (rewidth c from to) s (inner_struct (rewidth c from to) s k) ≡ false = ap (leads_back (rewidth c from to) s) (rewidth-inner_struct c from to s k) ∙ rewidth-leads_back c from to s (inner_struct c s k) ∙ h.not_cyclic in
     rw (name, identifier, basic, back, rewidth-overruns c from to s k is e lt within) refl
 
-none_found : {Y : Type 0} (f : ℕ → Option Y) (n : ℕ) → ((k : ℕ) → k < n → f k ≡ None) → find_map f (numbers_below n) ≡ None
+pub none_found : {Y : Type 0} (f : ℕ → Option Y) (n : ℕ) → ((k : ℕ) → k < n → f k ≡ None) → find_map f (numbers_below n) ≡ None
 none_found f zero h = refl
 none_found f (suc n) h = rw (find_map-append f (numbers_below n) (n ∷ []), none_found f n (λ k lt. h k (omega arith)), h n (omega arith)) refl
 
