@@ -18,3 +18,4 @@ pub mod NoneInItself
 pub mod NewLengths
 pub mod RewidthKeeps
 pub mod RewidthLayout
+pub mod RewidthCatalogue

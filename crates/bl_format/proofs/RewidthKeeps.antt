@@ -53,10 +53,15 @@ rewidth-type_count c from to = length-map-enumerate_from (at_new_width c from to
 no_type : TypeEntry
 no_type = record { name = []; length = 0 }
 
+-- a type has its old name, and the length of its struct or its old one
+pub type_at : (c : Catalogue) (from to : Width) (t : ℕ) (d : TypeEntry) → t < length c.types
+    → get_or (rewidth c from to).types t d ≡ record { name = (get_or c.types t d).name; length = type_length c from to (struct_of_type c t) (get_or c.types t d).length }
+unfolding rewidth at_new_width
+type_at c from to t d lt = get_or-map-enumerate_from (at_new_width c from to) 0 c.types t t d d lt (omega arith)
+
 type_within : (c : Catalogue) (from to : Width) (t : ℕ) → t < length c.types
     → type_entry (rewidth c from to) t ≡ record { name = (type_entry c t).name; length = type_length c from to (struct_of_type c t) (type_entry c t).length }
-unfolding rewidth at_new_width
-type_within c from to t lt = get_or-map-enumerate_from (at_new_width c from to) 0 c.types t t _ (record { name = []; length = 0 }) lt (omega arith)
+type_within c from to t lt = type_at c from to t (record { name = []; length = 0 }) lt
 
 type_past : (c : Catalogue) (t : ℕ) → length c.types ≤ t → type_entry c t ≡ no_type
 unfolding no_type
