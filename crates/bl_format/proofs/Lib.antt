@@ -19,3 +19,4 @@ pub mod NewLengths
 pub mod RewidthKeeps
 pub mod RewidthLayout
 pub mod RewidthCatalogue
+pub mod CatalogueFits
