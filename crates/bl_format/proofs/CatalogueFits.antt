@@ -6,7 +6,7 @@ use Rattle.std.specs.Int.{byte_at, bytes_high_first, bytes_low_first}
 use Rattle.std.specs.List.{position_or_len, list_any}
 use Rattle.std.specs.Str.{bytes_eq}
 use Rattle.std.proofs.lemmas.List.{length-replicate}
-use Rattle.std.proofs.lemmas.List.Elements.{All-nil, All-cons, All-append, All-take, All-drop}
+use Rattle.std.proofs.lemmas.List.Elements.{All-nil, All-cons, All-append, All-take, All-drop, All-replicate}
 use Rattle.bl_num.specs.declared.number.Order.{Order}
 use Rattle.bl_num.specs.declared.number.Order.TheVariants.{Little, Big}
 use Rattle.bl_num.specs.Numbers.{bytes_of}
@@ -282,11 +282,19 @@ entries_lengths order (x ∷ xs) (l ∷ ls) e = ap (λ (ys : List ℕ). bytes_of
 
 -- ---- the whole payload
 
+numbers_bytes : (order : Order) (ts : List TypeEntry) → AreBytes (flat_map (λ (t : TypeEntry). bytes_of order 2 t.length) ts)
+numbers_bytes order [] = All-nil (λ b. b < 256)
+numbers_bytes order (t ∷ ts) = All-append (λ b. b < 256) (bytes_of order 2 t.length) (flat_map (λ (t : TypeEntry). bytes_of order 2 t.length) ts) (bytes_of-AreBytes order 2 t.length) (numbers_bytes order ts)
+
+-- the lengths of any catalogue are written in bytes
+pub lengths_part-AreBytes : (order : Order) (c : Catalogue) → AreBytes (lengths_part order c)
+lengths_part-AreBytes order c =
+    All-append (λ b. b < 256) (codes "TLEN") (flat_map (λ (t : TypeEntry). bytes_of order 2 t.length) c.types) tlen_bytes (numbers_bytes order c.types)
+
 -- the parts of a catalogue's payload are bytes, and the whole has at most so many
 pub record PartsFit (order : Order) (c : Catalogue) (most : ℕ) : Type 0 where
   pub names : AreBytes (names_part order c)
   pub types : AreBytes (types_part order c)
-  pub lengths : AreBytes (lengths_part order c)
   pub structs : AreBytes (structs_part order c)
   pub short : length (catalogue_written order c) ≤ most
 
@@ -322,7 +330,6 @@ parts_fit order c p a b d f names types lengths structs =
     record {
       names = names.bytes;
       types = types.bytes;
-      lengths = lengths.bytes;
       structs = structs.bytes;
       short = omega (arith, length-catalogue_written order c, structs.end, structs.within, third);
     }
@@ -346,3 +353,19 @@ catalogue_of-PartsFit order p c all e =
     let d' : Takes p (aligned_place types.0.1) lengths.0.1 (lengths_part order read) = rw (entries_lengths order types.0.0 lengths.0.0 (sym d.1)) d.0 in
     subst (λ (x : Catalogue). PartsFit order x (length p)) (ok_same read c structs.2)
     (parts_fit order read p names.0.1 types.0.1 lengths.0.1 structs.0.1 a b' d' f)
+
+with_padding-AreBytes : (text : List ℕ) → AreBytes text → AreBytes (with_padding text)
+with_padding-AreBytes text all = All-append (λ b. b < 256) text (zeros (padding_of text)) all (All-replicate (λ b. b < 256) (padding_of text) 0 (omega arith))
+
+-- the payload of a catalogue whose parts are bytes is bytes
+pub catalogue_written-AreBytes : (order : Order) (c : Catalogue) (most : ℕ) → PartsFit order c most → AreBytes (catalogue_written order c)
+unfolding catalogue_written
+catalogue_written-AreBytes order c most h =
+    let a : List ℕ = with_padding (names_part order c) in
+    let b : List ℕ = with_padding (types_part order c) in
+    let d : List ℕ = with_padding (lengths_part order c) in
+    All-append (λ x. x < 256) (a ++ b ++ d) (structs_part order c)
+    (All-append (λ x. x < 256) (a ++ b) d
+    (All-append (λ x. x < 256) a b (with_padding-AreBytes (names_part order c) h.names) (with_padding-AreBytes (types_part order c) h.types))
+    (with_padding-AreBytes (lengths_part order c) (lengths_part-AreBytes order c)))
+    h.structs

@@ -20,3 +20,4 @@ pub mod RewidthKeeps
 pub mod RewidthLayout
 pub mod RewidthCatalogue
 pub mod CatalogueFits
+pub mod RewidthHasLayout
