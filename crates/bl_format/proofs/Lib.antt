@@ -21,3 +21,4 @@ pub mod RewidthLayout
 pub mod RewidthCatalogue
 pub mod CatalogueFits
 pub mod RewidthHasLayout
+pub mod RewidthBack

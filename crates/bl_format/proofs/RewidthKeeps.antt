@@ -205,7 +205,7 @@ rewidth-basic_length c from to t b is e basic = elim (cases_lt t (length c.types
         empty_length c from to s e of.within (basic_struct_empty c from s b e name) ∙ ap (λ (u : ℕ). (type_entry c u).length) of.type_number_is
 
 -- the length of a member's type is the new size of one element by value
-rewidth-value_size : (c : Catalogue) (from to : Width) (s k : ℕ) → IsCatalogue c → first_fault c from ≡ None
+pub rewidth-value_size : (c : Catalogue) (from to : Width) (s k : ℕ) → IsCatalogue c → first_fault c from ≡ None
     → s < length c.structs → k < member_count c s → (name_of c s k).pointer ≡ false
     → (type_entry (rewidth c from to) (member_entry c s k).type_number).length ≡ new_value_size (new_length c from to) c s k (inner_struct c s k)
 unfolding inner_struct content_of

@@ -60,11 +60,11 @@ alike_sums f g zero h = alike_same 0
 alike_sums f g (suc n) h =
     rw (sum_below-suc f n, sum_below-suc g n) (alike_sum _ _ (f n) (g n) (alike_sums f g n (λ k lt. h k (omega arith))) (h n (omega arith)))
 
-element_of_pointer : (c : Catalogue) (w : Width) (s k : ℕ) → (name_of c s k).pointer ≡ true → element_size c w s k ≡ pointer_bytes w
+pub element_of_pointer : (c : Catalogue) (w : Width) (s k : ℕ) → (name_of c s k).pointer ≡ true → element_size c w s k ≡ pointer_bytes w
 unfolding element_size
 element_of_pointer c w s k e = rw e refl
 
-element_by_value : (c : Catalogue) (w : Width) (s k : ℕ) → (name_of c s k).pointer ≡ false
+pub element_by_value : (c : Catalogue) (w : Width) (s k : ℕ) → (name_of c s k).pointer ≡ false
     → element_size c w s k ≡ (type_entry c (member_entry c s k).type_number).length
 unfolding element_size
 element_by_value c w s k e = rw e refl
@@ -90,7 +90,7 @@ unfolding member_size
 alike_member c from to s k h =
     alike_product (element_size c from s k) _ (name_of c s k).count (alike_element c from to s k h (name_of c s k).pointer refl)
 
-length_is : (c : Catalogue) (w : Width) (s : ℕ) → first_fault c w ≡ None
+pub length_is : (c : Catalogue) (w : Width) (s : ℕ) → first_fault c w ≡ None
     → struct_length c s ≡ sum (map (member_size c w s) (member_numbers c s)) + tail_of c w s
 unfolding member_offset
 length_is c w s e = omega (arith, members_within c w s (member_count c s) refl e, tail_is c w s)
