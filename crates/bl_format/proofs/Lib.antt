@@ -22,3 +22,4 @@ pub mod RewidthCatalogue
 pub mod CatalogueFits
 pub mod RewidthHasLayout
 pub mod RewidthBack
+pub mod RewidthLeaves

@@ -88,7 +88,7 @@ pub rewidth-name_of : (c : Catalogue) (from to : Width) (s k : ℕ) → name_of 
 unfolding name_of
 rewidth-name_of c from to s k = rw (rewidth-member_entry c from to s k, rewidth-names c from to) refl
 
-rewidth-content_of : (c : Catalogue) (from to : Width) (t : ℕ) → content_of (rewidth c from to) t ≡ content_of c t
+pub rewidth-content_of : (c : Catalogue) (from to : Width) (t : ℕ) → content_of (rewidth c from to) t ≡ content_of c t
 unfolding content_of
 rewidth-content_of c from to t = rw (rewidth-type_name c from to t, rewidth-structs c from to) refl
 
@@ -190,7 +190,7 @@ basic_struct_empty c from s b e is = go (member_count c s) refl
         cc)
 
 -- a basic type keeps its length
-rewidth-basic_length : (c : Catalogue) (from to : Width) (t : ℕ) (b : Basic) → IsCatalogue c → first_fault c from ≡ None
+pub rewidth-basic_length : (c : Catalogue) (from to : Width) (t : ℕ) (b : Basic) → IsCatalogue c → first_fault c from ≡ None
     → basic_named (type_entry c t).name ≡ Some b → (type_entry (rewidth c from to) t).length ≡ (type_entry c t).length
 rewidth-basic_length c from to t b is e basic = elim (cases_lt t (length c.types)) [
   | inl lt ↦ type_length_within c from to t lt ∙ go (struct_of_type c t) refl
@@ -290,7 +290,7 @@ rewidth-leads_back : (c : Catalogue) (from to : Width) (s : ℕ) (o : Option ℕ
 rewidth-leads_back c from to s None = refl
 rewidth-leads_back c from to s (Some t) = rw (rewidth-holds_struct c from to, rewidth-structs c from to) refl
 
-rewidth-struct_name : (c : Catalogue) (from to : Width) (s : ℕ) → struct_name (rewidth c from to) s ≡ struct_name c s
+pub rewidth-struct_name : (c : Catalogue) (from to : Width) (s : ℕ) → struct_name (rewidth c from to) s ≡ struct_name c s
 rewidth-struct_name c from to s =
     ap (λ (x : StructEntry). (type_entry (rewidth c from to) x.type_number).name) (rewidth-struct_entry c from to s) ∙ rewidth-type_name c from to (struct_entry c s).type_number
 

@@ -106,13 +106,13 @@ alike_within c from to (suc n) s e lt le =
     (alike_same (tail_of c from s)))
 
 -- a member of a struct is empty at both widths or at none
-member_alike : (c : Catalogue) (from to : Width) (s k : ℕ) → IsCatalogue c → first_fault c from ≡ None → k < member_count c s
+pub member_alike : (c : Catalogue) (from to : Width) (s k : ℕ) → IsCatalogue c → first_fault c from ≡ None → k < member_count c s
     → EmptyAlike (member_size c from s k) (member_size (rewidth c from to) to s k)
 member_alike c from to s k is e within =
     rw (rewidth-member_size c from to s k is e (struct_exists c s k within) within)
     (alike_member c from to s k (λ t at. alike_within c from to (structs_below c t) t e (inner_struct-some c s k t at).is_struct.within (omega arith)))
 
-tests_alike : (a b : ℕ) → EmptyAlike a b → (b == 0) ≡ (a == 0)
+pub tests_alike : (a b : ℕ) → EmptyAlike a b → (b == 0) ≡ (a == 0)
 tests_alike zero b h = rw (h.there refl) refl
 tests_alike (suc a) zero h = absurd (let e : suc a ≡ 0 = h.back refl in omega arith)
 tests_alike (suc a) (suc b) h = eqb-suc-zero b ∙ sym (eqb-suc-zero a)
