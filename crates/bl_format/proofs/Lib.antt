@@ -23,3 +23,4 @@ pub mod CatalogueFits
 pub mod RewidthHasLayout
 pub mod RewidthBack
 pub mod RewidthLeaves
+pub mod WaysDiffer
