@@ -24,3 +24,4 @@ pub mod RewidthHasLayout
 pub mod RewidthBack
 pub mod RewidthLeaves
 pub mod WaysDiffer
+pub mod LeafBytes
