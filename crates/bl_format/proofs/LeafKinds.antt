@@ -24,6 +24,7 @@ pub record HoldsOfOwn (P : NamedLeaf → Type 0) (c : Catalogue) (w : Width) : T
   pub behind : (step : MemberStep) (by : ℕ) (x : NamedLeaf) → P x → P (leaf_behind step by x)
   pub own : (s k : ℕ) → k < member_count c s → member_size c w s k ≢ 0 → P (own_leaf c w s k)
 
+-- what holds of all that each number gives holds of all that they give together
 pub each_number : {X : Type 0} (P : X → Type 0) (f : ℕ → List X) (n : ℕ)
     → ((k : ℕ) → k < n → All P (f k)) → All P (flat_map f (numbers_below n))
 each_number P f zero h = All-nil P
@@ -52,6 +53,7 @@ leaves_within-hold P zero c w s holds = All-nil P
 leaves_within-hold P (suc n) c w s holds =
     each_number P (member_leaves (leaves_within n c w) c w s) (member_count c s) (λ k lt. member_holds P (leaves_within n c w) c w s k holds lt (λ t. leaves_within-hold P n c w t holds))
 
+-- such a property holds of each leaf that a struct has
 pub named_leaves-hold : (P : NamedLeaf → Type 0) (c : Catalogue) (w : Width) (s : ℕ)
     → HoldsOfOwn P c w → All P (named_leaves c w s)
 unfolding named_leaves

@@ -45,6 +45,7 @@ AreApart-leaf_behind step by from to [] h = omega arith
 AreApart-leaf_behind step by from to (x ∷ xs) h =
     (omega (arith, h.0), apart_from_before (by + x.offset + x.size * x.count) (by + end_of_leaf x) (by + to) (map (leaf_behind step by) xs) (omega arith) (AreApart-leaf_behind step by (end_of_leaf x) to xs h.1))
 
+-- what the numbers up to n give is what those below n give, and then what n gives
 pub flat_map-numbers_below : {X : Type 0} (f : ℕ → List X) (n : ℕ)
     → flat_map f (numbers_below (suc n)) ≡ flat_map f (numbers_below n) ++ (f n ++ [])
 flat_map-numbers_below f n = flat_map-append f (numbers_below n) (n ∷ [])
@@ -95,6 +96,7 @@ members_apart inside c w s (suc n) h =
 
 -- ---- the laws
 
+-- the members of a struct end within its length
 pub members_within : (c : Catalogue) (w : Width) (s n : ℕ) → n ≡ member_count c s
     → first_fault c w ≡ None → member_offset c w s n ≤ struct_length c s
 unfolding member_offset

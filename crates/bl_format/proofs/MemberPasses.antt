@@ -22,6 +22,7 @@ pub record MemberPasses (c : Catalogue) (w : Width) (s k : ℕ) : Type 0 where
   pub not_cyclic : leads_back c s (inner_struct c s k) ≡ false
   pub within : overruns c w s k ≡ false
 
+-- what is found in two lists, one behind the other, is what is found in the first, else in the second
 pub find_map-append : {X Y : Type 0} (f : X → Option Y) (xs ys : List X)
     → find_map f (xs ++ ys) ≡ option_or (find_map f xs) (find_map f ys)
 find_map-append f [] ys = refl
@@ -31,6 +32,7 @@ find_map-append {X} {Y} f (x ∷ xs) ys = rw (find_map-append f xs ys) (go (f x)
     go None = refl
     go (Some y) = refl
 
+-- where nothing is found in either of two places, nothing is in each
 pub neither : {Y : Type 0} (a b : Option Y) → option_or a b ≡ None → (a ≡ None) × (b ≡ None)
 neither None b e = (refl, e)
 neither (Some y) b e = absurd (cc)
@@ -113,6 +115,7 @@ pub record IsStructOf (c : Catalogue) (type_number s : ℕ) : Type 0 where
   pub within : s < length c.structs
   pub type_number_is : (struct_entry c s).type_number ≡ type_number
 
+-- the struct that is found for a type has that type
 pub is_struct_of : (c : Catalogue) (t s : ℕ) → struct_of_type c t ≡ Some s → IsStructOf c t s
 is_struct_of c t s e =
     let h = place_of (λ (x : StructEntry). x.type_number == t) 0 c.structs s e in
@@ -128,6 +131,7 @@ pub record IsInside (c : Catalogue) (s k t : ℕ) : Type 0 where
   pub basic : basic_named (type_entry c (member_entry c s k).type_number).name ≡ None
   pub is_struct : IsStructOf c (member_entry c s k).type_number t
 
+-- what stands in a struct by value is a struct of the catalogue, of the member's type
 pub inner_struct-some : (c : Catalogue) (s k t : ℕ) → inner_struct c s k ≡ Some t → IsInside c s k t
 unfolding inner_struct content_of
 inner_struct-some c s k t e = by_pointer (name_of c s k).pointer refl e

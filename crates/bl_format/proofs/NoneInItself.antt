@@ -161,6 +161,7 @@ fewer_below c w s k t e lt within is =
 pub one_below : (c : Catalogue) (s : ℕ) → s < length c.structs → 0 < structs_below c s
 one_below c s lt = omega (arith, one_more_passes (λ y. false) (below_member c s) (length c.structs) s (λ y below e. absurd (cc)) lt refl (reaches_itself c s lt))
 
+-- no struct has more structs below it than there are
 pub structs_below-le : (c : Catalogue) (s : ℕ) → structs_below c s ≤ length c.structs
 structs_below-le c s = count_below-le (below_member c s) (length c.structs)
 

@@ -74,9 +74,11 @@ rewidth-type_name c from to t = elim (cases_lt t (length c.types)) [
   | inr le ↦ ap (λ (x : TypeEntry). x.name) (type_past (rewidth c from to) t (omega (arith, rewidth-type_count c from to)) ∙ sym (type_past c t le))
 ]
 
+-- a struct stays
 pub rewidth-struct_entry : (c : Catalogue) (from to : Width) (s : ℕ) → struct_entry (rewidth c from to) s ≡ struct_entry c s
 rewidth-struct_entry c from to s = rw (rewidth-structs c from to, rewidth-type_count c from to) refl
 
+-- a struct has as many members as before
 pub rewidth-member_count : (c : Catalogue) (from to : Width) (s : ℕ) → member_count (rewidth c from to) s ≡ member_count c s
 rewidth-member_count c from to s = ap (λ (x : StructEntry). length x.members) (rewidth-struct_entry c from to s)
 
@@ -84,10 +86,12 @@ rewidth-member_count c from to s = ap (λ (x : StructEntry). length x.members) (
 pub rewidth-member_entry : (c : Catalogue) (from to : Width) (s k : ℕ) → member_entry (rewidth c from to) s k ≡ member_entry c s k
 rewidth-member_entry c from to s k = rw (rewidth-structs c from to, rewidth-type_count c from to, rewidth-names c from to) refl
 
+-- what a member's name says stays
 pub rewidth-name_of : (c : Catalogue) (from to : Width) (s k : ℕ) → name_of (rewidth c from to) s k ≡ name_of c s k
 unfolding name_of
 rewidth-name_of c from to s k = rw (rewidth-member_entry c from to s k, rewidth-names c from to) refl
 
+-- what a type holds stays
 pub rewidth-content_of : (c : Catalogue) (from to : Width) (t : ℕ) → content_of (rewidth c from to) t ≡ content_of c t
 unfolding content_of
 rewidth-content_of c from to t = rw (rewidth-type_name c from to t, rewidth-structs c from to) refl
@@ -243,6 +247,7 @@ unfolding member_offset
 rewidth-member_offset c from to s k is e lt le =
     ap (λ (xs : List ℕ). sum xs) (map_same (member_size (rewidth c from to) to s) (new_size (new_length c from to) c to s) k (λ j below. rewidth-member_size c from to s j is e lt (omega arith)))
 
+-- a sum over the numbers up to n is that below n, and what n gives
 pub sum_below-suc : (f : ℕ → ℕ) (n : ℕ) → sum (map f (numbers_below (suc n))) ≡ sum (map f (numbers_below n)) + f n
 sum_below-suc f n = rw (map-append f (numbers_below n) (n ∷ [])) (sum_by_push (λ (x : ℕ). x) (map f (numbers_below n)) (f n))
 
@@ -253,6 +258,7 @@ sum_below-le f k (suc n) le = elim (cases_lt k (suc n)) [
   | inr ge ↦ (let same : k ≡ suc n = omega arith in rw same (omega arith))
 ]
 
+-- the unnamed tail is what stands behind the last member
 pub tail_is : (c : Catalogue) (w : Width) (s : ℕ) → tail_of c w s ≡ struct_length c s - member_offset c w s (member_count c s)
 unfolding tail_of
 tail_is c w s = refl
@@ -290,6 +296,7 @@ rewidth-leads_back : (c : Catalogue) (from to : Width) (s : ℕ) (o : Option ℕ
 rewidth-leads_back c from to s None = refl
 rewidth-leads_back c from to s (Some t) = rw (rewidth-holds_struct c from to, rewidth-structs c from to) refl
 
+-- the names of structs stay
 pub rewidth-struct_name : (c : Catalogue) (from to : Width) (s : ℕ) → struct_name (rewidth c from to) s ≡ struct_name c s
 rewidth-struct_name c from to s =
     ap (λ (x : StructEntry). (type_entry (rewidth c from to) x.type_number).name) (rewidth-struct_entry c from to s) ∙ rewidth-type_name c from to (struct_entry c s).type_number
@@ -319,6 +326,7 @@ rewidth-member_fault c from to s k is e lt within =
     let back : leads_back (rewidth c from to) s (inner_struct (rewidth c from to) s k) ≡ false = ap (leads_back (rewidth c from to) s) (rewidth-inner_struct c from to s k) ∙ rewidth-leads_back c from to s (inner_struct c s k) ∙ h.not_cyclic in
     rw (name, identifier, basic, back, rewidth-overruns c from to s k is e lt within) refl
 
+-- where no number below n gives anything, nothing is found
 pub none_found : {Y : Type 0} (f : ℕ → Option Y) (n : ℕ) → ((k : ℕ) → k < n → f k ≡ None) → find_map f (numbers_below n) ≡ None
 none_found f zero h = refl
 none_found f (suc n) h = rw (find_map-append f (numbers_below n) (n ∷ []), none_found f n (λ k lt. h k (omega arith)), h n (omega arith)) refl

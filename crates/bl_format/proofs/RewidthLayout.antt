@@ -60,10 +60,12 @@ alike_sums f g zero h = alike_same 0
 alike_sums f g (suc n) h =
     rw (sum_below-suc f n, sum_below-suc g n) (alike_sum _ _ (f n) (g n) (alike_sums f g n (λ k lt. h k (omega arith))) (h n (omega arith)))
 
+-- an element that is a pointer has the bytes of pointers
 pub element_of_pointer : (c : Catalogue) (w : Width) (s k : ℕ) → (name_of c s k).pointer ≡ true → element_size c w s k ≡ pointer_bytes w
 unfolding element_size
 element_of_pointer c w s k e = rw e refl
 
+-- an element by value has the bytes of its type
 pub element_by_value : (c : Catalogue) (w : Width) (s k : ℕ) → (name_of c s k).pointer ≡ false
     → element_size c w s k ≡ (type_entry c (member_entry c s k).type_number).length
 unfolding element_size
@@ -90,6 +92,7 @@ unfolding member_size
 alike_member c from to s k h =
     alike_product (element_size c from s k) _ (name_of c s k).count (alike_element c from to s k h (name_of c s k).pointer refl)
 
+-- a struct's length is the sum of its members' sizes and its tail
 pub length_is : (c : Catalogue) (w : Width) (s : ℕ) → first_fault c w ≡ None
     → struct_length c s ≡ sum (map (member_size c w s) (member_numbers c s)) + tail_of c w s
 unfolding member_offset
@@ -112,6 +115,7 @@ member_alike c from to s k is e within =
     rw (rewidth-member_size c from to s k is e (struct_exists c s k within) within)
     (alike_member c from to s k (λ t at. alike_within c from to (structs_below c t) t e (inner_struct-some c s k t at).is_struct.within (omega arith)))
 
+-- numbers that are 0 together answer the test for 0 alike
 pub tests_alike : (a b : ℕ) → EmptyAlike a b → (b == 0) ≡ (a == 0)
 tests_alike zero b h = rw (h.there refl) refl
 tests_alike (suc a) zero h = absurd (let e : suc a ≡ 0 = h.back refl in omega arith)
