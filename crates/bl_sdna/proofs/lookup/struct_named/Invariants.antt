@@ -1,0 +1,10 @@
+use Rattle.std.proofs.Common.{◌≡◌, drop}
+use Rattle.std.specs.Str.{bytes_eq}
+use Rattle.std.specs.List.{position_from}
+use Rattle.bl_format.specs.Layout.{type_entry}
+use Rattle.bl_format.specs.Words.{first_place}
+use Rattle.bl_sdna.proofs.lookup.struct_named.Given as goal
+
+-- the search from here on is the whole search
+abbrev pub invariant-loop-number : goal.invariant-loop-number
+invariant-loop-number l = position_from (λ s. bytes_eq (type_entry l.catalogue s.type_number).name l.name) l.number (drop l.number l.entry-items) ≡ first_place (λ s. bytes_eq (type_entry l.catalogue s.type_number).name l.name) l.entry-items

@@ -1,0 +1,13 @@
+use Rattle.std.proofs.Common.{◌≡◌, ◌≤◌, ◌-◌, [], length, map}
+use Rattle.bl_format.specs.Schema.{type_names_at}
+use Rattle.bl_sdna.specs.Parts.{type_name_at}
+use Rattle.bl_sdna.proofs.Many.{with_front}
+use Rattle.bl_sdna.proofs.Seen.{many_after}
+use Rattle.bl_sdna.proofs.parts.type_names.Given as goal
+
+-- what was read and what is still to be read is all that is read
+abbrev pub invariant-loop : goal.invariant-loop
+invariant-loop l = record {
+  within : l.place ≤ length l.bytes;
+  whole : with_front l.names.items (many_after (type_name_at l.bytes) (λ x. x) (map (λ k. k.now) l.seen.keys) (l.count - l.counter) l.place) ≡ (type_names_at l.bytes [] l.count l.at);
+}
