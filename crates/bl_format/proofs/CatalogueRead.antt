@@ -27,22 +27,22 @@ IsByte b = b < 256
 
 -- ---- what an answer that is Ok says of its parts
 
-bind_ok : {A B : Type 0} (r : Result A SdnaFault) (f : A → Result B SdnaFault) (y : B)
+pub bind_ok : {A B : Type 0} (r : Result A SdnaFault) (f : A → Result B SdnaFault) (y : B)
     → (r >>= f) ≡ Ok y → (x : A) × (r ≡ Ok x) × (f x ≡ Ok y)
 bind_ok (Ok x) f y e = (x, refl, e)
 bind_ok {A} {B} (Err z) f y e = absurd (let e' : ◌≡◌ {A = Result B SdnaFault} (Err z) (Ok y) = e in cc)
 
-if_ok : {A : Type 0} (b : Bool) (z : SdnaFault) (x y : A) → (if b then Err z else Ok x) ≡ Ok y → x ≡ y
+pub if_ok : {A : Type 0} (b : Bool) (z : SdnaFault) (x y : A) → (if b then Err z else Ok x) ≡ Ok y → x ≡ y
 if_ok {A} true z x y e = absurd (let e' : ◌≡◌ {A = Result A SdnaFault} (Err z) (Ok y) = e in cc)
 if_ok {A} false z x y e = let e' : ◌≡◌ {A = Result A SdnaFault} (Ok x) (Ok y) = e in cc
 
-ensure_ok : (b : Bool) (z : SdnaFault) (x : ℕ) → ensure b z ≡ Ok x → b ≡ true
+pub ensure_ok : (b : Bool) (z : SdnaFault) (x : ℕ) → ensure b z ≡ Ok x → b ≡ true
 ensure_ok true z x e = refl
 ensure_ok false z x e = absurd (let e' : ◌≡◌ {A = Result ℕ SdnaFault} (Err z) (Ok x) = e in cc)
 
 -- ---- numbers and names
 
-all_drop : (n : ℕ) (xs : List ℕ) → All (λ b. b < 256) xs → All (λ b. b < 256) (drop n xs)
+pub all_drop : (n : ℕ) (xs : List ℕ) → All (λ b. b < 256) xs → All (λ b. b < 256) (drop n xs)
 all_drop zero xs all = all
 all_drop (suc n) [] all = all
 all_drop (suc n) (x ∷ xs) all = all_drop n xs (All-tail (λ b. b < 256) x xs all)
@@ -74,7 +74,7 @@ before_zero (x ∷ xs) = go (x == 0) refl (before_zero xs)
     go true e more = rw e (λ k d lt. absurd (omega (arith, lt)))
     go false e more = let s : 1 + position_or_len (λ b. b == 0) xs ≡ suc (position_or_len (λ b. b == 0) xs) = omega arith in rw (e, s) (All-cons (λ b. b ≢ 0) x (take (position_or_len (λ b. b == 0) xs) xs) (λ z. absurd (let t : (x == 0) ≡ true = (Decides-eqb x 0).1 z in let f : true ≡ false = sym t ∙ e in cc)) more)
 
-ok_same : {A : Type 0} (x y : A) → ◌≡◌ {A = Result A SdnaFault} (Ok x) (Ok y) → x ≡ y
+pub ok_same : {A : Type 0} (x y : A) → ◌≡◌ {A = Result A SdnaFault} (Ok x) (Ok y) → x ≡ y
 ok_same {A} x y e = let e' : ◌≡◌ {A = Result A SdnaFault} (Ok x) (Ok y) = e in cc
 
 name_ok : (p : List ℕ) (at : ℕ) (v : List ℕ × ℕ) → name_at p at ≡ Ok v → IsName v.0
@@ -198,7 +198,7 @@ structs_ok order c types names p (suc n) before at v et en all e =
 
 -- ---- types of names and lengths
 
-entries_len : (names : List (List ℕ)) (lengths : List ℕ)
+pub entries_len : (names : List (List ℕ)) (lengths : List ℕ)
     → length names ≡ length lengths → length (type_entries names lengths) ≡ length names
 entries_len [] ls e = refl
 entries_len (x ∷ xs) [] e = absurd (omega (arith, e))

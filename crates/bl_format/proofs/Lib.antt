@@ -1,6 +1,7 @@
 pub mod BlocksOf
 pub mod CatalogueBack
 pub mod CatalogueRead
+pub mod CatalogueSpelled
 pub mod Closure
 pub mod FileBack
 pub mod FileSpelled

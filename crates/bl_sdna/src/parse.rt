@@ -105,7 +105,8 @@ mod tests {
 
     // The small catalogue of the worked examples, with 8-byte pointers and numbers that have their
     // lowest byte first.
-    const WIDE: [u8; 392] = *b"SDNANAME\x14\0\0\0*next\0*prev\0*newid\0*lib\0name[66]\0flag\0us\0id\0name[1024]\0\
+    const WIDE: [u8; 392] =
+        *b"SDNANAME\x14\0\0\0*next\0*prev\0*newid\0*lib\0name[66]\0flag\0us\0id\0name[1024]\0\
 *parent\0*data\0loc[3]\0type\0_pad[2]\0*index\0*co\0**users\0*extra\0totindex\0tot\
 co\0\0\0TYPE\x0e\0\0\0char\0uchar\0short\0ushort\0int\0int64_t\0float\0double\0voi\
 d\0Link\0ID\0Library\0Object\0Mesh\0\0\0TLEN\x01\0\x01\0\x02\0\x02\0\x04\0\x08\0\
@@ -116,7 +117,8 @@ d\0Link\0ID\0Library\0Object\0Mesh\0\0\0TLEN\x01\0\x01\0\x02\0\x02\0\x04\0\x08\0
 \x0e\0\x06\0\x0f\0\x0c\0\x10\0\x08\0\x11\0\x04\0\x12\0\x04\0\x13\0";
 
     // The same with 4-byte pointers and numbers that have their highest byte first.
-    const NARROW: [u8; 392] = *b"SDNANAME\0\0\0\x14*next\0*prev\0*newid\0*lib\0name[66]\0flag\0us\0id\0name[1024]\0\
+    const NARROW: [u8; 392] =
+        *b"SDNANAME\0\0\0\x14*next\0*prev\0*newid\0*lib\0name[66]\0flag\0us\0id\0name[1024]\0\
 *parent\0*data\0loc[3]\0type\0_pad[2]\0*index\0*co\0**users\0*extra\0totindex\0tot\
 co\0\0\0TYPE\0\0\0\x0echar\0uchar\0short\0ushort\0int\0int64_t\0float\0double\0voi\
 d\0Link\0ID\0Library\0Object\0Mesh\0\0\0TLEN\0\x01\0\x01\0\x02\0\x02\0\x04\0\x08\0\
@@ -185,8 +187,14 @@ d\0Link\0ID\0Library\0Object\0Mesh\0\0\0TLEN\0\x01\0\x01\0\x02\0\x02\0\x04\0\x08
             assert_eq!(rt; fault_of(&rt, &bytes), Some(want));
         }
         assert_eq!(rt; fault_of(&rt, &WIDE[..3]), Some(SdnaFault::CutShort(0)));
-        assert_eq!(rt; fault_of(&rt, &WIDE[..LAST_NAME]), Some(SdnaFault::CutShort(390)));
-        assert_eq!(rt; fault_of(&rt, &WIDE[..PADDING]), Some(SdnaFault::CutShort(144)));
+        assert_eq!(rt;
+            fault_of(&rt, &WIDE[..LAST_NAME]),
+            Some(SdnaFault::CutShort(390))
+        );
+        assert_eq!(rt;
+            fault_of(&rt, &WIDE[..PADDING]),
+            Some(SdnaFault::CutShort(144))
+        );
         let mut bytes = WIDE;
         bytes[USHORT..USHORT + 6].copy_from_slice(b"short\0");
         assert_eq!(rt; fault_of(&rt, &bytes), Some(SdnaFault::TwoTypes(169)));
