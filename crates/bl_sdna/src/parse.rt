@@ -107,26 +107,26 @@ mod tests {
     // lowest byte first.
     const WIDE: [u8; 392] =
         *b"SDNANAME\x14\0\0\0*next\0*prev\0*newid\0*lib\0name[66]\0flag\0us\0id\0name[1024]\0\
-*parent\0*data\0loc[3]\0type\0_pad[2]\0*index\0*co\0**users\0*extra\0totindex\0tot\
-co\0\0\0TYPE\x0e\0\0\0char\0uchar\0short\0ushort\0int\0int64_t\0float\0double\0voi\
-d\0Link\0ID\0Library\0Object\0Mesh\0\0\0TLEN\x01\0\x01\0\x02\0\x02\0\x04\0\x08\0\
-\x04\0\x08\0\0\0\x10\0h\0h\x04\x88\0\x90\0STRC\x05\0\0\0\x09\0\x02\0\x09\0\0\0\x09\
-\0\x01\0\x0a\0\x07\0\x08\0\0\0\x08\0\x01\0\x0a\0\x02\0\x0b\0\x03\0\0\0\x04\0\x02\0\
-\x05\0\x04\0\x06\0\x0b\0\x02\0\x0a\0\x07\0\0\0\x08\0\x0c\0\x06\0\x0a\0\x07\0\x0c\0\
-\x09\0\x0d\0\x0a\0\x06\0\x0b\0\x02\0\x0c\0\0\0\x0d\0\x0d\0\x07\0\x0a\0\x07\0\x04\0\
-\x0e\0\x06\0\x0f\0\x0c\0\x10\0\x08\0\x11\0\x04\0\x12\0\x04\0\x13\0";
+            *parent\0*data\0loc[3]\0type\0_pad[2]\0*index\0*co\0**users\0*extra\0totindex\0tot\
+            co\0\0\0TYPE\x0e\0\0\0char\0uchar\0short\0ushort\0int\0int64_t\0float\0double\0voi\
+            d\0Link\0ID\0Library\0Object\0Mesh\0\0\0TLEN\x01\0\x01\0\x02\0\x02\0\x04\0\x08\0\
+            \x04\0\x08\0\0\0\x10\0h\0h\x04\x88\0\x90\0STRC\x05\0\0\0\x09\0\x02\0\x09\0\0\0\x09\
+            \0\x01\0\x0a\0\x07\0\x08\0\0\0\x08\0\x01\0\x0a\0\x02\0\x0b\0\x03\0\0\0\x04\0\x02\0\
+            \x05\0\x04\0\x06\0\x0b\0\x02\0\x0a\0\x07\0\0\0\x08\0\x0c\0\x06\0\x0a\0\x07\0\x0c\0\
+            \x09\0\x0d\0\x0a\0\x06\0\x0b\0\x02\0\x0c\0\0\0\x0d\0\x0d\0\x07\0\x0a\0\x07\0\x04\0\
+            \x0e\0\x06\0\x0f\0\x0c\0\x10\0\x08\0\x11\0\x04\0\x12\0\x04\0\x13\0";
 
     // The same with 4-byte pointers and numbers that have their highest byte first.
     const NARROW: [u8; 392] =
         *b"SDNANAME\0\0\0\x14*next\0*prev\0*newid\0*lib\0name[66]\0flag\0us\0id\0name[1024]\0\
-*parent\0*data\0loc[3]\0type\0_pad[2]\0*index\0*co\0**users\0*extra\0totindex\0tot\
-co\0\0\0TYPE\0\0\0\x0echar\0uchar\0short\0ushort\0int\0int64_t\0float\0double\0voi\
-d\0Link\0ID\0Library\0Object\0Mesh\0\0\0TLEN\0\x01\0\x01\0\x02\0\x02\0\x04\0\x08\0\
-\x04\0\x08\0\0\0\x08\0X\x04X\0p\0pSTRC\0\0\0\x05\0\x09\0\x02\0\x09\0\0\0\x09\0\x01\
-\0\x0a\0\x07\0\x08\0\0\0\x08\0\x01\0\x0a\0\x02\0\x0b\0\x03\0\0\0\x04\0\x02\0\x05\0\
-\x04\0\x06\0\x0b\0\x02\0\x0a\0\x07\0\0\0\x08\0\x0c\0\x06\0\x0a\0\x07\0\x0c\0\x09\0\
-\x0d\0\x0a\0\x06\0\x0b\0\x02\0\x0c\0\0\0\x0d\0\x0d\0\x07\0\x0a\0\x07\0\x04\0\x0e\0\
-\x06\0\x0f\0\x0c\0\x10\0\x08\0\x11\0\x04\0\x12\0\x04\0\x13";
+            *parent\0*data\0loc[3]\0type\0_pad[2]\0*index\0*co\0**users\0*extra\0totindex\0tot\
+            co\0\0\0TYPE\0\0\0\x0echar\0uchar\0short\0ushort\0int\0int64_t\0float\0double\0voi\
+            d\0Link\0ID\0Library\0Object\0Mesh\0\0\0TLEN\0\x01\0\x01\0\x02\0\x02\0\x04\0\x08\0\
+            \x04\0\x08\0\0\0\x08\0X\x04X\0p\0pSTRC\0\0\0\x05\0\x09\0\x02\0\x09\0\0\0\x09\0\x01\
+            \0\x0a\0\x07\0\x08\0\0\0\x08\0\x01\0\x0a\0\x02\0\x0b\0\x03\0\0\0\x04\0\x02\0\x05\0\
+            \x04\0\x06\0\x0b\0\x02\0\x0a\0\x07\0\0\0\x08\0\x0c\0\x06\0\x0a\0\x07\0\x0c\0\x09\0\
+            \x0d\0\x0a\0\x06\0\x0b\0\x02\0\x0c\0\0\0\x0d\0\x0d\0\x07\0\x0a\0\x07\0\x04\0\x0e\0\
+            \x06\0\x0f\0\x0c\0\x10\0\x08\0\x11\0\x04\0\x12\0\x04\0\x13";
 
     // The places of both: padding, the name of type 3, a byte of the padding before the lengths, and
     // the last struct with the name number of its last member.
@@ -144,20 +144,26 @@ d\0Link\0ID\0Library\0Object\0Mesh\0\0\0TLEN\0\x01\0\x01\0\x02\0\x02\0\x04\0\x08
         parse_catalogue(rt.alloc(), Order::Little, bytes).err()
     }
 
+    // Whether what is written of the catalogue that the bytes hold is the bytes again.
+    fn is_written_again(rt: &HostRuntime, order: Order, bytes: &[u8; 392]) -> Option<bool> {
+        let catalogue = parse_catalogue(rt.alloc(), order, bytes).ok()?;
+        let written = write_catalogue(rt.alloc(), order, &catalogue).ok()?;
+        Some(written.as_slice() == bytes.as_slice())
+    }
+
     #[test]
-    fn reads_and_writes(rt: HostRuntime) -> Result<(), SdnaFault> {
-        for (order, other, bytes) in [
-            (Order::Little, Order::Big, &WIDE),
-            (Order::Big, Order::Little, &NARROW),
-        ] {
-            let catalogue = parse_catalogue(rt.alloc(), order, bytes)?;
-            let written = write_catalogue(rt.alloc(), order, &catalogue).ok();
-            assert_eq!(rt; written.as_deref(), Some(bytes.as_slice()));
-            assert_eq!(rt; struct_named(&catalogue, b"Object"), Some(3));
-            assert_eq!(rt; struct_named(&catalogue, b"int"), None);
-            assert_eq!(rt; type_named(&catalogue, b"Object"), Some(12));
-            assert_eq!(rt; type_named(&catalogue, b"Objects"), None);
-        }
+    fn writes_what_was_read(rt: HostRuntime) {
+        assert_eq!(rt; is_written_again(&rt, Order::Little, &WIDE), Some(true));
+        assert_eq!(rt; is_written_again(&rt, Order::Big, &NARROW), Some(true));
+    }
+
+    #[test]
+    fn finds_names(rt: HostRuntime) -> Result<(), SdnaFault> {
+        let catalogue = parse_catalogue(rt.alloc(), Order::Little, &WIDE)?;
+        assert_eq!(rt; struct_named(&catalogue, b"Object"), Some(3));
+        assert_eq!(rt; struct_named(&catalogue, b"int"), None);
+        assert_eq!(rt; type_named(&catalogue, b"Object"), Some(12));
+        assert_eq!(rt; type_named(&catalogue, b"Objects"), None);
         Ok(())
     }
 
