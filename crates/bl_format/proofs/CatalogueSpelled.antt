@@ -272,6 +272,41 @@ padding_length p end inside = let s = (padding_spelled p end inside).place in om
 padding_by_length : (at len end : ℕ) → end ≡ aligned_place at + len → aligned_place end - end ≡ aligned_place len - len
 padding_by_length at len end e = omega (arith, e)
 
+respelled : (p : List ℕ) (at : ℕ) (t u : List ℕ) (end : ℕ) → t ≡ u → IsSpelled p at t end → IsSpelled p at u end
+respelled p at t u end same spelled = subst (λ (x : List ℕ). IsSpelled p at x end) same spelled
+
+-- the four parts, each spelled at its place, make a payload
+parts_spelled : (order : Order) (c : Catalogue) (p : List ℕ) (a b d e : ℕ) → IsCatalogue c
+    → IsSpelled p 0 (names_part order c) a
+    → IsSpelled p (aligned_place a) (types_part order c) b → aligned_place a ≤ length p
+    → IsSpelled p (aligned_place b) (lengths_part order c) d → aligned_place b ≤ length p
+    → IsSpelled p (aligned_place d) (structs_part order c) e → aligned_place d ≤ length p
+    → IsPayload order c p
+parts_spelled order c p a b d e is names types types-inside lengths lengths-inside structs structs-inside =
+    let n : List ℕ = names_part order c in
+    let t : List ℕ = types_part order c in
+    let l : List ℕ = lengths_part order c in
+    let x : List ℕ = padding_behind p a in
+    let y : List ℕ = padding_behind p b in
+    let z : List ℕ = padding_behind p d in
+    let before-types = then_spelled p 0 n a x (aligned_place a) names (padding_spelled p a types-inside) in
+    let to-types = then_spelled p 0 (n ++ x) (aligned_place a) t b before-types types in
+    let before-lengths = then_spelled p 0 (n ++ x ++ t) b y (aligned_place b) to-types (padding_spelled p b lengths-inside) in
+    let to-lengths = then_spelled p 0 (n ++ x ++ t ++ y) (aligned_place b) l d before-lengths lengths in
+    let before-structs = then_spelled p 0 (n ++ x ++ t ++ y ++ l) d z (aligned_place d) to-lengths (padding_spelled p d structs-inside) in
+    let all = then_spelled p 0 (n ++ x ++ t ++ y ++ l ++ z) (aligned_place d) (structs_part order c) e before-structs structs in
+    record {
+      is_catalogue = is;
+      before_types = x;
+      before_lengths = y;
+      before_structs = z;
+      rest = drop e p;
+      types_aligned = padding_length p a types-inside ∙ padding_by_length 0 (length n) a names.place;
+      lengths_aligned = padding_length p b lengths-inside ∙ padding_by_length a (length t) b types.place;
+      structs_aligned = padding_length p d structs-inside ∙ padding_by_length b (length l) d lengths.place;
+      text = all.stands;
+    }
+
 -- what is read of a payload of bytes is what is spelled there
 pub IsPayload-catalogue_of : (order : Order) (p : List ℕ) (c : Catalogue)
     → All (λ b. b < 256) p → catalogue_of order p ≡ Ok c → IsPayload order c p
@@ -282,10 +317,7 @@ IsPayload-catalogue_of order p c bytes e =
     let lengths = bind_ok (lengths_at order (length types.0.0) p types.0.1) _ c types.2 in
     let structs = bind_ok (all_structs_at order (length types.0.0) (length names.0.0) p lengths.0.1) _ c lengths.2 in
     let read : Catalogue = record { names = names.0.0; types = type_entries types.0.0 lengths.0.0; structs = structs.0.0 } in
-    let same : read ≡ c = ok_same read c structs.2 in
-    let types-place : ℕ = aligned_place names.0.1 in
-    let lengths-place : ℕ = aligned_place types.0.1 in
-    let structs-place : ℕ = aligned_place lengths.0.1 in
+    let same : c ≡ read = sym (ok_same read c structs.2) in
     let n = names_spelled order p names.0 bytes names.1 in
     let t = types_spelled order p names.0.1 types.0 bytes types.1 in
     let l = lengths_spelled order (length types.0.0) p types.0.1 lengths.0 bytes lengths.1 in
@@ -293,22 +325,6 @@ IsPayload-catalogue_of order p c bytes e =
     let many : length (type_entries types.0.0 lengths.0.0) ≡ length types.0.0 = entries_len types.0.0 lengths.0.0 (sym l.2) in
     let types-text : codes "TYPE" ++ bytes_of order 4 (length types.0.0) ++ flat_map name_written types.0.0 ≡ types_part order read = rw (many, entries_names types.0.0 lengths.0.0 (sym l.2)) refl in
     let lengths-text : codes "TLEN" ++ flat_map (bytes_of order 2) lengths.0.0 ≡ lengths_part order read = rw (entries_lengths order types.0.0 lengths.0.0 (sym l.2)) refl in
-    let types-part = subst (λ (x : List ℕ). IsSpelled p types-place x types.0.1) types-text t.0 in
-    let lengths-part = subst (λ (x : List ℕ). IsSpelled p lengths-place x lengths.0.1) lengths-text l.0 in
-    let a = then_spelled p 0 (names_part order read) names.0.1 (padding_behind p names.0.1) types-place n (padding_spelled p names.0.1 t.1) in
-    let b = then_spelled p 0 (names_part order read ++ padding_behind p names.0.1) types-place (types_part order read) types.0.1 a types-part in
-    let d = then_spelled p 0 _ types.0.1 (padding_behind p types.0.1) lengths-place b (padding_spelled p types.0.1 l.1) in
-    let f = then_spelled p 0 _ lengths-place (lengths_part order read) lengths.0.1 d lengths-part in
-    let g = then_spelled p 0 _ lengths.0.1 (padding_behind p lengths.0.1) structs-place f (padding_spelled p lengths.0.1 s.1) in
-    let all = then_spelled p 0 _ structs-place (structs_part order read) structs.0.1 g s.0 in
-    subst (λ (x : Catalogue). IsPayload order x p) same (record {
-      is_catalogue = subst IsCatalogue (sym same) (IsCatalogue-catalogue_of order p c bytes e);
-      before_types = padding_behind p names.0.1;
-      before_lengths = padding_behind p types.0.1;
-      before_structs = padding_behind p lengths.0.1;
-      rest = drop structs.0.1 p;
-      types_aligned = padding_length p names.0.1 t.1 ∙ padding_by_length 0 (length (names_part order read)) names.0.1 n.place;
-      lengths_aligned = padding_length p types.0.1 l.1 ∙ padding_by_length names.0.1 (length (types_part order read)) types.0.1 types-part.place;
-      structs_aligned = padding_length p lengths.0.1 s.1 ∙ padding_by_length types.0.1 (length (lengths_part order read)) lengths.0.1 lengths-part.place;
-      text = all.stands;
-    })
+    let types-part = respelled p (aligned_place names.0.1) _ (types_part order read) types.0.1 types-text t.0 in
+    let lengths-part = respelled p (aligned_place types.0.1) _ (lengths_part order read) lengths.0.1 lengths-text l.0 in
+    rw same (parts_spelled order read p names.0.1 types.0.1 lengths.0.1 structs.0.1 (rw (sym same) (IsCatalogue-catalogue_of order p c bytes e)) n types-part t.1 lengths-part l.1 s.0 s.1)
