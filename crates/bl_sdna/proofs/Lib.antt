@@ -1,3 +1,4 @@
 pub mod Many
 pub mod Seen
 pub mod Readable
+pub mod Spelled

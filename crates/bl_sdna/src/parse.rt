@@ -1,5 +1,5 @@
 ghost use Rattle.std.specs.Prelude.{◌≡◌, ◌⊎◌, ◌≤◌, ◌<◌, ◌^◌, length, Ok, Err, IfOk, IfErr};
-ghost use Rattle.bl_format.specs.Schema.{Gives, CanBeRead, names_at, types_at, lengths_at, all_structs_at, catalogue_of};
+ghost use Rattle.bl_format.specs.Schema.{Gives, CanBeRead, IsPayload, names_at, types_at, lengths_at, all_structs_at, catalogue_of};
 ghost use Rattle.bl_format.specs.declared.catalogue.SdnaFault.TheVariants.{NoMemory};
 
 use crate::parts::{lengths, names, structs, type_entries, type_names};
@@ -91,6 +91,7 @@ fn read_catalogue(alloc: Global, order: Order, bytes: &[u8]) -> Result<Catalogue
 /// stand as padding, may be any. A fault's place counts from the payload's start.
 pub fn parse_catalogue(alloc: Global, order: Order, bytes: &[u8]) -> Result<Catalogue, SdnaFault>
     ensures reads { IfOk result (λ catalogue. catalogue_of order bytes.now ≡ Ok catalogue) }
+    ensures spelled { IfOk result (λ catalogue. IsPayload order catalogue bytes.now) }
     ensures can_be_read { length bytes.now < 2 ^ 32 → IfOk result CanBeRead }
     ensures refuses { IfErr result (λ fault. (fault ≡ NoMemory)
         ⊎ (catalogue_of order bytes.now ≡ Err fault)) }
