@@ -14,7 +14,7 @@ use Rattle.bl_commands.specs.Checks.{first_ending}
 use Rattle.bl_cli.specs.Convert.{opening_checks, format_checks, convert_checks}
 use Rattle.bl_cli.specs.Outcome.{Effect, convert_effect, convert_outcome}
 use Rattle.bl_cli.specs.Prepared.{IsOutputOf}
-use Rattle.bl_cli.specs.Run.{BlamesRisen, IsChecked, IsInside}
+use Rattle.bl_cli.specs.Run.{BlamesRisen, IsChecked, BlamesNothing}
 
 -- ---- checks
 
@@ -80,7 +80,7 @@ at_name None input name e checked = tt
 at_name (Some t) input name e checked = checked name
 
 -- an ending that blames no count
-pub blames_none : (e : Ending) → IsInside e → (misses misses' faults faults' puts puts' : ℕ) → BlamesRisen e misses misses' faults faults' puts puts'
+pub blames_none : (e : Ending) → BlamesNothing e → (misses misses' faults faults' puts puts' : ℕ) → BlamesRisen e misses misses' faults faults' puts puts'
 blames_none endings.NoCommand inside misses misses' faults faults' puts puts' = tt
 blames_none endings.NoMemory inside misses misses' faults faults' puts puts' = tt
 blames_none (endings.Absent file) inside misses misses' faults faults' puts puts' = absurd inside

@@ -10,7 +10,7 @@ use Rattle.bl_shelf.specs.Causes.{Rose}
 use Rattle.bl_shelf.specs.Told.{Told, Held}
 use Rattle.bl_shelf.specs.Written.{Grows, GrowsByPrefix}
 use Rattle.bl_cli.specs.Outcome.{Effect}
-use Rattle.bl_cli.specs.Run.{BlamesRisen, IsChecked, IsDone, IsFromOutside, outcome_status, own_line, outcome_line, ending_line, PutsEnding, PutsLines, Reports, Concludes}
+use Rattle.bl_cli.specs.Run.{BlamesRisen, IsChecked, IsDone, IsOutsideStatus, outcome_status, own_line, outcome_line, ending_line, PutsEnding, PutsLines, Reports, Concludes}
 
 abbrev Done : Type 0
 Done = Result (Unit {0}) Ending
@@ -33,7 +33,7 @@ is_error (Ok effect) e is = cc
 is_error (Err x) e is = cc
 
 -- an ending is the outcome's, or from outside with its own status
-pub checked_cases : (outcome : Result Effect Ending) (e : Ending) → IsChecked (result_err outcome) e → (outcome ≡ Err e) ⊎ IsFromOutside (status_of e)
+pub checked_cases : (outcome : Result Effect Ending) (e : Ending) → IsChecked (result_err outcome) e → (outcome ≡ Err e) ⊎ IsOutsideStatus (status_of e)
 checked_cases outcome endings.NoCommand is = inl (is_error outcome _ is)
 checked_cases outcome endings.NoMemory is = inr (inl refl)
 checked_cases outcome (endings.Absent file) is = inl (is_error outcome _ is)
@@ -49,13 +49,13 @@ reported : (e : Ending) (status puts puts' : ℕ) (w w' : Option Text) → Repor
 reported e status puts puts' w w' (inl whole) = inl whole.0
 reported e status puts puts' w w' (inr none) = inr none.0
 
-pub status_checked : (outcome : Result Effect Ending) (e : Ending) (status : ℕ) → (status ≡ status_of e) ⊎ (status ≡ 3) → IsChecked (result_err outcome) e → (status ≡ outcome_status outcome) ⊎ IsFromOutside status
+pub status_checked : (outcome : Result Effect Ending) (e : Ending) (status : ℕ) → (status ≡ status_of e) ⊎ (status ≡ 3) → IsChecked (result_err outcome) e → (status ≡ outcome_status outcome) ⊎ IsOutsideStatus status
 status_checked outcome e status (inr three) checked = inr (inl three)
 status_checked outcome e status (inl same) checked = by_cases (checked_cases outcome e checked)
   where
-    by_cases : (outcome ≡ Err e) ⊎ IsFromOutside (status_of e) → (status ≡ outcome_status outcome) ⊎ IsFromOutside status
+    by_cases : (outcome ≡ Err e) ⊎ IsOutsideStatus (status_of e) → (status ≡ outcome_status outcome) ⊎ IsOutsideStatus status
     by_cases (inl is) = inl (same ∙ sym (ap outcome_status is))
-    by_cases (inr outside) = inr (subst IsFromOutside (sym same) outside)
+    by_cases (inr outside) = inr (subst IsOutsideStatus (sym same) outside)
 
 -- the ending of a status
 of_usage : (e : Ending) → status_of e ≡ 2 → e ≡ endings.NoCommand

@@ -54,28 +54,28 @@ storing_ending shelf.Failed = Device
 storing_ending shelf.NoMemory = NoMemory
 
 -- memory, a device or the sink gave the ending
-abbrev pub IsOutside : Ending → Type 0
-IsOutside NoMemory = ⊤
-IsOutside Device = ⊤
-IsOutside Sink = ⊤
-IsOutside _ = ⊥
+abbrev pub ComesFromOutside : Ending → Type 0
+ComesFromOutside NoMemory = ⊤
+ComesFromOutside Device = ⊤
+ComesFromOutside Sink = ⊤
+ComesFromOutside _ = ⊥
 
 -- neither the words, nor a miss, nor a device, nor the sink gave the ending
-abbrev pub IsInside : Ending → Type 0
-IsInside NoCommand = ⊥
-IsInside (Absent file) = ⊥
-IsInside Device = ⊥
-IsInside Sink = ⊥
-IsInside _ = ⊤
+abbrev pub BlamesNothing : Ending → Type 0
+BlamesNothing NoCommand = ⊥
+BlamesNothing (Absent file) = ⊥
+BlamesNothing Device = ⊥
+BlamesNothing Sink = ⊥
+BlamesNothing _ = ⊤
 
 -- the words didn't give the ending
-abbrev pub IsSpelled : Ending → Type 0
-IsSpelled NoCommand = ⊥
-IsSpelled _ = ⊤
+abbrev pub IsNotUsage : Ending → Type 0
+IsNotUsage NoCommand = ⊥
+IsNotUsage _ = ⊤
 
 -- the words gave the ending, or memory is wanted
-abbrev pub IsUnspelled : Result (Unit {0}) Ending → Type 0
-IsUnspelled result = (result ≡ Err NoCommand) ⊎ (result ≡ Err NoMemory)
+abbrev pub IsUsageOrNoMemory : Result (Unit {0}) Ending → Type 0
+IsUsageOrNoMemory result = (result ≡ Err NoCommand) ⊎ (result ≡ Err NoMemory)
 
 -- a command that this program has today; the words spell no other
 abbrev pub IsBuilt : Command → Type 0
@@ -121,8 +121,8 @@ outcome_status (Ok effect) = 0
 outcome_status (Err ending) = status_of ending
 
 -- want of memory, a device or the sink ended the run
-abbrev pub IsFromOutside : ℕ → Type 0
-IsFromOutside status = (status ≡ 3) ⊎ (status ≡ 5) ⊎ (status ≡ 10)
+abbrev pub IsOutsideStatus : ℕ → Type 0
+IsOutsideStatus status = (status ≡ 3) ⊎ (status ≡ 5) ⊎ (status ≡ 10)
 
 -- the line that tells of an outcome, where it is an ending
 abbrev pub outcome_line : Result Effect Ending → Text

@@ -8,7 +8,7 @@ ghost use Rattle.bl_shelf.specs.Written.{GrowsByPrefix};
 ghost use Rattle.bl_cli.specs.Conversion.{CommitsConversion};
 ghost use Rattle.bl_cli.specs.Outcome.{command_in, command_outcome, run_outcome};
 ghost use Rattle.bl_cli.specs.Refusal.{HasCauseIn};
-ghost use Rattle.bl_cli.specs.Run.{Concludes, IsBuilt, IsCaused, IsChecked, IsDone, IsFromOutside, IsLeft, IsSpelled, IsUnspelled, LeavesFiles, PutsLines, Reports, outcome_status, own_line};
+ghost use Rattle.bl_cli.specs.Run.{Concludes, IsBuilt, IsCaused, IsChecked, IsDone, IsOutsideStatus, IsLeft, IsNotUsage, IsUsageOrNoMemory, LeavesFiles, PutsLines, Reports, outcome_status, own_line};
 
 use crate::convert::convert;
 use bl_lines::{Ending, fault_line, status_of};
@@ -39,7 +39,7 @@ fn obey<S: Shelf, O: Sink>(
         (O.written out.new))) }
     ensures cause { IsCaused (S.misses shelf.old) (S.misses shelf.new) (S.faults shelf.old)
         (S.faults shelf.new) (O.faults out.old) (O.faults out.new) result }
-    ensures spelled { IfErr result IsSpelled }
+    ensures spelled { IfErr result IsNotUsage }
 {
     match command {
         Command::Convert {
@@ -74,7 +74,7 @@ fn perform<S: Shelf, O: Sink>(
     ensures cause { IsCaused (S.misses shelf.old) (S.misses shelf.new) (S.faults shelf.old)
         (S.faults shelf.new) (O.faults out.old) (O.faults out.new) result }
     ensures usage { result ≡ Err Ending.NoCommand → command_in words.now ≡ None }
-    ensures unspelled { command_in words.now ≡ None → IsUnspelled result }
+    ensures unspelled { command_in words.now ≡ None → IsUsageOrNoMemory result }
 {
     match command_of(alloc, words) {
         Err(_) => Err(Ending::NoMemory),
@@ -130,7 +130,7 @@ pub fn run<S: Shelf, O: Sink>(alloc: Global, words: &[String], shelf: &mut S, ou
     // files by what these read as, and where there is none, the run is done.
     ensures checked { IfSome (S.told shelf.old) (λ t.
         (result ≡ outcome_status (run_outcome t.held words.now))
-        ⊎ IsFromOutside result) }
+        ⊎ IsOutsideStatus result) }
     ensures causes { IfSome (S.told shelf.old) (λ t.
         IfErr (run_outcome t.held words.now) (HasCauseIn (command_in words.now) t.held)) }
     ensures complete { IfSome (S.told shelf.old) (λ t.

@@ -8,7 +8,7 @@ ghost use Rattle.bl_commands.specs.Checks.{first_ending};
 ghost use Rattle.bl_cli.specs.Convert.{format_checks};
 ghost use Rattle.bl_cli.specs.Outcome.{convert_outcome};
 ghost use Rattle.bl_cli.specs.Prepared.{IsOutputOf};
-ghost use Rattle.bl_cli.specs.Run.{IsCaused, IsChecked, IsDone, IsInside, IsLeft, IsSpelled, own_line};
+ghost use Rattle.bl_cli.specs.Run.{IsCaused, IsChecked, IsDone, BlamesNothing, IsLeft, IsNotUsage, own_line};
 
 use crate::files::{read_input, store};
 use crate::raw_file::{is_catalogue, open_raw};
@@ -36,7 +36,7 @@ fn node_count(blocks: &[Head]) -> usize
 fn convert_bytes(alloc: Global, input: &str, bytes: &[u8]) -> Result<Output, Ending>
     ensures ok { IfOk result (IsOutputOf input.now bytes.now) }
     ensures checked { IfErr result (IsChecked (first_ending (format_checks input.now bytes.now))) }
-    ensures inside { IfErr result IsInside }
+    ensures inside { IfErr result BlamesNothing }
 {
     match open_raw(alloc, input, bytes) {
         Err(ending) => Err(ending),
@@ -60,7 +60,7 @@ fn prepare<S: Shelf>(alloc: Global, input: &str, shelf: &mut S) -> Result<Output
         → IsChecked (result_err (convert_outcome t.held input.now name)) ending)) }
     ensures cause { IsCaused (S.misses shelf.old) (S.misses shelf.new) (S.faults shelf.old)
         (S.faults shelf.new) 0 0 result }
-    ensures spelled { IfErr result IsSpelled }
+    ensures spelled { IfErr result IsNotUsage }
 {
     match read_input(alloc, input, shelf) {
         Err(ending) => Err(ending),
@@ -95,7 +95,7 @@ pub fn convert<S: Shelf, O: Sink>(
         (O.written out.new))) }
     ensures cause { IsCaused (S.misses shelf.old) (S.misses shelf.new) (S.faults shelf.old)
         (S.faults shelf.new) (O.faults out.old) (O.faults out.new) result }
-    ensures spelled { IfErr result IsSpelled }
+    ensures spelled { IfErr result IsNotUsage }
 {
     match prepare(alloc, input, shelf) {
         Err(ending) => Err(ending),

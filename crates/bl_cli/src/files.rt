@@ -6,7 +6,7 @@ ghost use Rattle.bl_shelf.specs.Written.{Grows, GrowsByPrefix};
 ghost use Rattle.bl_format.specs.Limits.{most_input_bytes};
 ghost use Rattle.bl_commands.specs.Checks.{first_ending};
 ghost use Rattle.bl_cli.specs.Convert.{opening_checks};
-ghost use Rattle.bl_cli.specs.Run.{IsCaused, IsChecked, IsOutside, IsReadingEnding, IsSpelled, IsUnstored, storing_ending};
+ghost use Rattle.bl_cli.specs.Run.{IsCaused, IsChecked, ComesFromOutside, IsReadingEnding, IsNotUsage, IsUnstored, storing_ending};
 
 use bl_commands::{Ending, Quantity};
 use bl_num::Text;
@@ -48,7 +48,7 @@ pub fn read_input<S: Shelf>(alloc: Global, name: &str, shelf: &mut S) -> Result<
     ensures small { IfOk result (λ bytes. length bytes.items ≤ most_input_bytes) }
     ensures checked { IfErr result (λ ending. IfSome (S.told shelf.old) (λ t.
         IsChecked (first_ending (opening_checks name.now (bytes_under name.now t))) ending)) }
-    ensures spelled { IfErr result IsSpelled }
+    ensures spelled { IfErr result IsNotUsage }
 {
     let size = match shelf.size(name) {
         Ok(size) => size,
@@ -95,7 +95,7 @@ pub fn store<S: Shelf, O: Sink>(
     ensures part { GrowsByPrefix (O.written out.old) line.now (O.written out.new) }
     ensures cause { IsCaused (S.misses shelf.old) (S.misses shelf.new) (S.faults shelf.old)
         (S.faults shelf.new) (O.faults out.old) (O.faults out.new) result }
-    ensures outside { IfErr result IsOutside }
+    ensures outside { IfErr result ComesFromOutside }
 {
     match shelf.stage(name, bytes.len() as u64) {
         Ok(()) => {}

@@ -3,7 +3,7 @@ ghost use Rattle.std.specs.Prelude.{◌≡◌, None, OnOk, IfOk, IfErr};
 ghost use Rattle.bl_format.specs.Nodes.{is_catalogue, catalogues_in};
 ghost use Rattle.bl_commands.specs.Checks.{first_ending};
 ghost use Rattle.bl_cli.specs.Convert.{IsRawFile, second_fault, catalogue_fault, has_struct_block, format_checks};
-ghost use Rattle.bl_cli.specs.Run.{IsChecked, IsInside, IsRefusal};
+ghost use Rattle.bl_cli.specs.Run.{IsChecked, BlamesNothing, IsRefusal};
 
 use crate::files::text_of;
 use bl_blocks::{Head, all_blocks};
@@ -75,7 +75,7 @@ pub fn open_raw(alloc: Global, name: &str, bytes: &[u8]) -> Result<RawFile, Endi
     ensures read { IfOk result (IsRawFile bytes.now) }
     ensures passes { OnOk result (first_ending (format_checks name.now bytes.now) ≡ None) }
     ensures checked { IfErr result (IsChecked (first_ending (format_checks name.now bytes.now))) }
-    ensures inside { IfErr result IsInside }
+    ensures inside { IfErr result BlamesNothing }
 {
     let header = match parse_header(bytes) {
         Ok(header) => header,
