@@ -36,29 +36,41 @@ order_text Big = codes "big"
 abbrev pub indent : Text
 indent = codes "  "
 
+-- the first line: what the header says, and how many names, types and structs the catalogue has
+unfoldable pub schema_line : Header → ℕ → ℕ → ℕ → Text
+schema_line h names types structs =
+    line (codes "version" ∷ decimal h.version ∷ codes "width" ∷ decimal (pointer_bytes h.width)
+    ∷ codes "order" ∷ order_text h.order ∷ codes "names" ∷ decimal names
+    ∷ codes "types" ∷ decimal types ∷ codes "structs" ∷ decimal structs ∷ [])
+
+-- the line of a struct: its number, its name and its length
+unfoldable pub struct_line : ℕ → List ℕ → ℕ → Text
+struct_line s name len = line (codes "struct" ∷ decimal s ∷ shown_bytes name ∷ decimal len ∷ [])
+
+-- the line of a member by its offset, its size, the name of its type and its whole name
+unfoldable pub member_line_by : ℕ → ℕ → List ℕ → List ℕ → Text
+member_line_by offset size type_name name =
+    indent ++ line (decimal offset ∷ decimal size ∷ shown_bytes type_name ∷ shown_bytes name ∷ [])
+
 -- the whole name of member k of struct s
 abbrev pub whole_member_name : Catalogue → ℕ → ℕ → List ℕ
 whole_member_name c s k = name_entry c (member_entry c s k).name_number
 
--- the line of a member: its offset, its size, its type and its name
+-- the line of member k of struct s
 abbrev pub member_line : Catalogue → Width → ℕ → ℕ → Text
 member_line c w s k =
     let type_name = (type_entry c (member_entry c s k).type_number).name in
-    let numbers = decimal (member_offset c w s k) ∷ decimal (member_size c w s k) ∷ [] in
-    indent ++ line (numbers ++ shown_bytes type_name ∷ shown_bytes (whole_member_name c s k) ∷ [])
+    member_line_by (member_offset c w s k) (member_size c w s k) type_name (whole_member_name c s k)
 
--- the lines of a struct: its number, its name and its length, and then its members
+-- the lines of struct s: its own, and then those of its members
 abbrev pub struct_lines : Catalogue → Width → ℕ → Text
 struct_lines c w s =
-    line (codes "struct" ∷ decimal s ∷ shown_bytes (struct_name c s) ∷ decimal (struct_length c s) ∷ [])
-    ++ flat_map (member_line c w s) (member_numbers c s)
+    struct_line s (struct_name c s) (struct_length c s) ++ flat_map (member_line c w s) (member_numbers c s)
 
--- what schema prints: a line for the header and the catalogue's counts, and then the structs
+-- what schema prints: the line of the header and the catalogue's counts, and then the lines of all structs
 unfoldable pub schema_text : Header → Catalogue → Text
 schema_text h c =
-    line (codes "version" ∷ decimal h.version ∷ codes "width" ∷ decimal (pointer_bytes h.width)
-    ∷ codes "order" ∷ order_text h.order ∷ codes "names" ∷ decimal (length c.names)
-    ∷ codes "types" ∷ decimal (length c.types) ∷ codes "structs" ∷ decimal (length c.structs) ∷ [])
+    schema_line h (length c.names) (length c.types) (length c.structs)
     ++ flat_map (struct_lines c h.width) (struct_numbers c)
 
 -- ---- fates

@@ -1,9 +1,9 @@
 use crate::{
     Ending, FileFault, Lack, Quantity, block_ending, fault_line, head_ending, layout_ending,
-    sdna_ending, status_of, summary_line,
+    member_line, schema_line, sdna_ending, status_of, struct_line, summary_line,
 };
-use bl_format::{BlockFault, HeadFault, LayoutFault, SdnaFault};
-use bl_num::{NoMemory, Text};
+use bl_format::{BlockFault, HeadFault, Header, LayoutFault, SdnaFault};
+use bl_num::{NoMemory, Order, Text, Width};
 use std::alloc::Global;
 
 fn text(alloc: Global, text: &str) -> Result<Text, NoMemory> {
@@ -25,6 +25,32 @@ fn are_lines(alloc: Global, endings: &[Ending], lines: &str) -> Result<bool, NoM
 fn summary(rt: HostRuntime) -> Result<(), NoMemory> {
     let line = summary_line(rt.alloc(), 9, 1540)?;
     assert_eq!(rt; line.as_slice(), b"blocks 9 bytes 1540\n".as_slice());
+    Ok(())
+}
+
+#[test]
+fn catalogue(rt: HostRuntime) -> Result<(), NoMemory> {
+    let alloc = rt.alloc();
+    let header = Header {
+        width: Width::Eight,
+        order: Order::Little,
+        version: 405,
+    };
+    let mut found = schema_line(alloc, &header, 20, 14, 5)?;
+    let lines = [
+        struct_line(alloc, 3, b"Object", 136)?,
+        member_line(alloc, 120, 12, b"float", b"loc[3]")?,
+        member_line(alloc, 134, 2, b"char", b"_pad[2]")?,
+        struct_line(alloc, 4, b"a\"b\\", 65535)?,
+        member_line(alloc, 0, 8, b"\x1f ", b"*\x7f\xc3")?,
+    ];
+    for line in &lines {
+        found.extend_from_slice(line)?;
+    }
+    let wanted = "version 405 width 8 order little names 20 types 14 structs 5\n\
+        struct 3 Object 136\n  120 12 float loc[3]\n  134 2 char _pad[2]\n\
+        struct 4 a\\x22b\\x5c 65535\n  0 8 \\x1f  *\\x7f\\xc3\n";
+    assert_eq!(rt; found.as_slice(), wanted.as_bytes());
     Ok(())
 }
 

@@ -13,7 +13,7 @@ use Rattle.bl_commands.specs.declared.ending.FileFault.TheVariants.{Overrun}
 use Rattle.bl_commands.specs.declared.ending.Lack.TheVariants.{MissingDatablock, NotStruct}
 use Rattle.bl_commands.specs.declared.ending.Quantity.TheVariants.{BlockBytes}
 use Rattle.bl_commands.specs.Texts.{shown_bytes, shown_code, value_text, summary_line, row_text, plain_form, tab_form, fault_line, head_ending}
-use Rattle.bl_answers.specs.Printed.{struct_lines, fate_lines, list_text, node_rows, graph_rows, dump_text}
+use Rattle.bl_answers.specs.Printed.{struct_line, member_line_by, struct_lines, fate_lines, list_text, node_rows, graph_rows, dump_text}
 use Rattle.bl_rows.proofs.Evaluation.{leaves, graphs, linking}
 use Rattle.bl_rows.proofs.Literals.{hex, lines}
 use Rattle.bl_rows.proofs.Example.{example_8, example_4, one_object, three_objects, with_changes}
@@ -27,7 +27,7 @@ schema_lines : struct_lines example_8 Eight 3 ++ struct_lines example_4 Four 3 �
     ∷ codes "  134 2 char _pad[2]" ∷ codes "struct 3 Object 112" ∷ codes "  0 88 ID id"
     ∷ codes "  88 4 Object *parent" ∷ codes "  92 4 Mesh *data" ∷ codes "  96 12 float loc[3]"
     ∷ codes "  108 2 short type" ∷ codes "  110 2 char _pad[2]" ∷ [])
-unfolding leaves digits
+unfolding leaves struct_line member_line_by digits
 schema_lines = refl
 
 -- struct `ID`, with a shorter name, a `short` in place of an `int`, and a new pointer
