@@ -1,5 +1,9 @@
-"""The small catalogue of the worked examples, for either pointer width, as the payload of a `DNA1` block."""
+"""The small catalogue of the worked examples, for either pointer width, as the payload of a `DNA1` block,
+and how any catalogue is written."""
+import array
+import itertools
 import struct
+import sys
 
 NAMES = ("*next *prev *newid *lib name[66] flag us id name[1024] *parent *data loc[3] type _pad[2] "
          "*index *co **users *extra totindex totco").split()
@@ -21,23 +25,36 @@ def padded(part):
     return part + b"\0" * (-len(part) % 4)
 
 
-def payload(width=8, order="<"):
-    def number(size, value):
-        return struct.pack(order + {2: "H", 4: "I"}[size], value)
+def written(names, types, lengths, structs, order="<"):
+    """A payload of the names and types as bytes, the types' lengths, and the structs: of each the number of
+    its type, and of each of its members the numbers of type and name."""
+    def numbers(form, values):
+        those = array.array(form, values)
+        if (order == "<") != (sys.byteorder == "little"):
+            those.byteswap()
+        return those.tobytes()
 
     def strings(words):
-        return b"".join(word.encode() + b"\0" for word in words)
+        return numbers("I", [len(words)]) + b"".join(word + b"\0" for word in words)
 
-    structs = b""
-    for name, *members in STRUCTS:
-        structs += number(2, TYPES.index(name)) + number(2, len(members))
-        for member in members:
-            kind, field = member.split()
-            structs += number(2, TYPES.index(kind)) + number(2, NAMES.index(field))
-    return (padded(b"SDNANAME" + number(4, len(NAMES)) + strings(NAMES))
-            + padded(b"TYPE" + number(4, len(TYPES)) + strings(TYPES))
-            + padded(b"TLEN" + b"".join(number(2, length) for length in LENGTHS[width]))
-            + b"STRC" + number(4, len(STRUCTS)) + structs)
+    entries = array.array("H")
+    for number, members in structs:
+        entries.extend((number, len(members)))
+        entries.extend(itertools.chain.from_iterable(members))
+    return (padded(b"SDNANAME" + strings(names)) + padded(b"TYPE" + strings(types))
+            + padded(b"TLEN" + numbers("H", lengths))
+            + b"STRC" + numbers("I", [len(structs)]) + numbers("H", entries))
+
+
+def member(spelled):
+    kind, field = spelled.split()
+    return TYPES.index(kind), NAMES.index(field)
+
+
+def payload(width=8, order="<"):
+    structs = [(TYPES.index(name), [member(spelled) for spelled in members]) for name, *members in STRUCTS]
+    return written([name.encode() for name in NAMES], [name.encode() for name in TYPES], LENGTHS[width],
+                   structs, order)
 
 
 def head(code, length, address=0, index=0, count=1, width=8, order="<"):
@@ -46,3 +63,13 @@ def head(code, length, address=0, index=0, count=1, width=8, order="<"):
 
 def header(width=8, order="<", version=405):
     return b"BLENDER" + {8: b"-", 4: b"_"}[width] + {"<": b"v", ">": b"V"}[order] + b"%03d" % version
+
+
+def end(width=8):
+    return b"ENDB" + bytes(8 + width + 4)
+
+
+def alone(payload, width=8, order="<", version=405):
+    """A file of a catalogue and no other block."""
+    return (header(width, order, version) + head(b"DNA1", len(payload), width=width, order=order) + payload
+            + end(width))
