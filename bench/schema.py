@@ -3,7 +3,8 @@
 
 Each file is a header, a catalogue and the end. Of each it prints the bytes, the seconds of both, the peak
 memory of `schema`, the bytes that it printed, its status and first line, and whether status and text are
-right. The status is 1 where an answer is wrong or a run doesn't end, and 0 whatever the times are."""
+right. A peak below 16,000 KiB may be that of this script, from which the run was forked. The status is 1
+where an answer is wrong or a run doesn't end, and 0 whatever the times are."""
 import argparse
 import filecmp
 import multiprocessing
