@@ -1,0 +1,61 @@
+-- The identifier that stood before, by the numbers of identifiers and by the identifiers themselves.
+use Rattle.std.proofs.Common.{◌≡◌, ℕ, zero, suc, ◌≤◌, ◌<◌, Bool, eqb, List, length, map, refl, sym, ◌∙◌, ap, arith, eq-eqb}
+use Rattle.std.specs.Prelude.{◌==◌, ◌||◌, slice_index}
+use Rattle.std.specs.List.{list_any}
+use Rattle.std.specs.Str.{bytes_eq}
+use Rattle.std.proofs.lemmas.Bool.{eqb-true}
+use Rattle.std.proofs.lemmas.List.{get_or_default}
+use Rattle.bl_format.specs.Words.{numbers_below}
+use Rattle.bl_format.specs.declared.catalogue.Catalogue.{Catalogue}
+use Rattle.bl_format.specs.declared.catalogue.MemberEntry.{MemberEntry}
+use Rattle.bl_format.specs.Schema.{IsCatalogue}
+use Rattle.bl_format.specs.Layout.{struct_entry, member_entry, member_count, name_of, is_duplicate}
+use Rattle.bl_layout.specs.Identifiers.{AreIdentifierNumbers, IsFirstDuplicate, number_of_member, stood_before}
+use Rattle.bl_layout.specs.Check.{IsFirstRepeat}
+use Rattle.bl_layout.proofs.IdentifierLemmas.{bool_same}
+use Rattle.bl_layout.proofs.DuplicateLemmas.{any-append, map-push}
+use Rattle.bl_layout.proofs.CheckLemmas.{member_fits}
+
+-- tests that agree on each number below n
+any_same : {A B : Type 0} (p : A → Bool) (q : B → Bool) (f : ℕ → A) (g : ℕ → B) (n : ℕ)
+    → ((j : ℕ) → j < n → p (f j) ≡ q (g j)) → list_any p (map f (numbers_below n)) ≡ list_any q (map g (numbers_below n))
+any_same p q f g zero same = refl
+any_same p q f g (suc n) same =
+    ap (list_any p) (map-push f (numbers_below n) n) ∙ any-append p (map f (numbers_below n)) (f n)
+    ∙ ap (λ (b : Bool). b || p (f n)) (any_same p q f g n (λ j lt. same j (omega arith)))
+    ∙ ap (λ (b : Bool). list_any q (map g (numbers_below n)) || b) (same n (omega arith))
+    ∙ sym (ap (list_any q) (map-push g (numbers_below n) n) ∙ any-append q (map g (numbers_below n)) (g n))
+
+eqb_sym : (a b : ℕ) → eqb a b ≡ eqb b a
+eqb_sym a b = bool_same (eqb a b) (eqb b a) (λ e. eq-eqb b a (sym (eqb-true a b e))) (λ e. eq-eqb a b (sym (eqb-true b a e)))
+
+-- the number of a member's identifier is that of its name
+number_at : (c : Catalogue) (ids : List ℕ) (s k : ℕ) → AreIdentifierNumbers c.names ids → k < member_count c s
+    → number_of_member ids (struct_entry c s).members k ≡ slice_index ids (member_entry c s k).name_number
+number_at c ids s k is lt =
+    ap (λ (m : MemberEntry). slice_index ids m.name_number)
+    (get_or_default (struct_entry c s).members k (record { type_number = 0; name_number = length ids }) (record { type_number = length c.types; name_number = length c.names }) lt)
+
+-- the two tests agree
+stood_before-is_duplicate : (c : Catalogue) (ids : List ℕ) (s k : ℕ)
+    → IsCatalogue c → s < length c.structs → AreIdentifierNumbers c.names ids → k < member_count c s
+    → stood_before ids (struct_entry c s).members k ≡ is_duplicate c s k
+unfolding name_of
+stood_before-is_duplicate c ids s k is lt numbers small =
+    any_same (λ y. y == number_of_member ids (struct_entry c s).members k) (bytes_eq (name_of c s k).identifier)
+    (number_of_member ids (struct_entry c s).members) (λ j. (name_of c s j).identifier) k
+    (λ j less. rw (number_at c ids s j numbers (omega arith), number_at c ids s k numbers small)
+    (eqb_sym (slice_index ids (member_entry c s j).name_number) (slice_index ids (member_entry c s k).name_number)
+    ∙ numbers.same (member_entry c s k).name_number (member_entry c s j).name_number (member_fits c s k is lt small).name_number (member_fits c s j is lt (omega arith)).name_number))
+
+-- the first member whose number stood before is the first whose identifier did
+pub first_repeat : (c : Catalogue) (ids : List ℕ) (members : List MemberEntry) (s n : ℕ)
+    → IsCatalogue c → s < length c.structs → AreIdentifierNumbers c.names ids → members ≡ (struct_entry c s).members
+    → n ≤ length members → IsFirstDuplicate ids members n → IsFirstRepeat c s n
+first_repeat c ids members s n is lt numbers same within first = record {
+  before = λ k less.
+      let small : k < member_count c s = omega (arith, ap length same) in
+      sym (stood_before-is_duplicate c ids s k is lt numbers small) ∙ ap (λ (xs : List MemberEntry). stood_before ids xs k) (sym same) ∙ first.before k less;
+  at = λ small.
+      sym (stood_before-is_duplicate c ids s n is lt numbers small) ∙ ap (λ (xs : List MemberEntry). stood_before ids xs n) (sym same) ∙ first.at (omega (arith, ap length same));
+}

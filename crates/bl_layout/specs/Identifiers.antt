@@ -1,0 +1,33 @@
+-- Numbers that stand for the identifiers of names.
+use Rattle.std.specs.Prelude.{◌≡◌, ◌==◌, ◌<◌, ℕ, Bool, true, false, map, List, [], length, slice_index}
+use Rattle.std.specs.List.{slice_index_or}
+use Rattle.std.specs.Str.{bytes_eq}
+use Rattle.bl_format.specs.Words.{contains, numbers_below}
+use Rattle.bl_format.specs.declared.catalogue.MemberEntry.{MemberEntry}
+use Rattle.bl_layout.specs.Names.{name_parts}
+
+-- the identifier of the name of a number
+abbrev pub identifier_of : List (List ℕ) → ℕ → List ℕ
+identifier_of names n = (name_parts (slice_index_or names n [])).identifier
+
+-- by the number of a name, a number that it shares with the names of the same identifier alone
+pub record AreIdentifierNumbers (names : List (List ℕ)) (numbers : List ℕ) : Type 0 where
+  pub len : length numbers ≡ length names
+  pub inside : (n : ℕ) → n < length names → slice_index numbers n < length names
+  pub same : (n m : ℕ) → n < length names → m < length names
+      → (slice_index numbers n == slice_index numbers m) ≡ bytes_eq (identifier_of names n) (identifier_of names m)
+
+-- the number of the identifier of member k
+abbrev pub number_of_member : List ℕ → List MemberEntry → ℕ → ℕ
+number_of_member numbers members k =
+    slice_index numbers (slice_index_or members k (record { type_number = 0; name_number = length numbers })).name_number
+
+-- whether the identifier of member k stood before
+abbrev pub stood_before : List ℕ → List MemberEntry → ℕ → Bool
+stood_before numbers members k =
+    contains (map (number_of_member numbers members) (numbers_below k)) (number_of_member numbers members k)
+
+-- the first member whose identifier stood before, or how many members there are
+pub record IsFirstDuplicate (numbers : List ℕ) (members : List MemberEntry) (n : ℕ) : Type 0 where
+  pub before : (k : ℕ) → k < n → stood_before numbers members k ≡ false
+  pub at : n < length members → stood_before numbers members n ≡ true

@@ -1,0 +1,14 @@
+pub mod Names
+pub mod Basics
+pub mod Identifiers
+pub mod Tables
+pub mod Sizes
+pub mod Check
+pub mod Graph
+pub mod Nesting
+pub mod Survey
+pub mod Foundation
+pub mod Shapes
+pub mod LaidOut
+pub mod Counts
+pub mod Leaves
