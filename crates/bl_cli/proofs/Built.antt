@@ -3,8 +3,8 @@ use Rattle.std.proofs.Common.{◌≡◌, Bool, true, false, cond, List, [], ◌�
 use Rattle.std.specs.Prelude.{codes, option_and_then, ◌&&◌}
 use Rattle.std.specs.Str.{bytes_eq}
 use Rattle.bl_commands.specs.declared.command.Command.{Command}
-use Rattle.bl_commands.specs.declared.command.Command.TheVariants.{Convert}
-use Rattle.bl_commands.specs.Commands.{Word, Switch, Form, when, command_of, convert_words, convert_options, options_by, is_file_word}
+use Rattle.bl_commands.specs.declared.command.Command.TheVariants.{Convert, Schema}
+use Rattle.bl_commands.specs.Commands.{Word, Switch, Form, when, command_of, convert_words, one_file, convert_options, options_by, is_file_word}
 use Rattle.bl_cli.specs.Run.{IsBuilt}
 
 when_built : (test : Bool) (c c' : Command) → IsBuilt c → when test c ≡ Some c' → IsBuilt c'
@@ -22,14 +22,23 @@ convert_built switches (input ∷ out ∷ rest) c is =
     then_built (options_by switches rest) (λ ps. when (is_file_word input && is_file_word out) (Convert input out (convert_options ps))) c
     (λ ps. when_built (is_file_word input && is_file_word out) (Convert input out (convert_options ps)) c tt) is
 
+one_file_built : (ws : List Word) (c : Command) → one_file Schema ws ≡ Some c → IsBuilt c
+one_file_built [] c is = cc
+one_file_built (input ∷ []) c is = when_built (is_file_word input) (Schema input) c tt is
+one_file_built (input ∷ x ∷ ws) c is = cc
+
 pub command_built : (ws : List Word) (c : Command) → command_of ws ≡ Some c → IsBuilt c
 unfolding command_of
 command_built [] c is = cc
-command_built (w ∷ ws) c is = by_name (bytes_eq (codes "convert") w) is
+command_built (w ∷ ws) c is = by_name (bytes_eq (codes "convert") w) (bytes_eq (codes "schema") w) is
   where
-    form : Form
-    form = record { name = codes "convert"; reads = convert_words [] }
+    convert_form : Form
+    convert_form = record { name = codes "convert"; reads = convert_words [] }
 
-    by_name : (b : Bool) → option_and_then (λ (f : Form). f.reads ws) (cond b (Some form) None) ≡ Some c → IsBuilt c
-    by_name true is = convert_built [] ws c is
-    by_name false is = cc
+    schema_form : Form
+    schema_form = record { name = codes "schema"; reads = one_file Schema }
+
+    by_name : (b b' : Bool) → option_and_then (λ (f : Form). f.reads ws) (cond b (Some convert_form) (cond b' (Some schema_form) None)) ≡ Some c → IsBuilt c
+    by_name true b' is = convert_built [] ws c is
+    by_name false true is = one_file_built ws c is
+    by_name false false is = cc

@@ -1,38 +1,38 @@
--- Where all checks of `convert` pass, its effect is a conversion.
-use Rattle.std.proofs.Common.{◌≡◌, ◌≤◌, ℕ, Bool, true, false, List, [], ◌∷◌, length, Option, Some, None, Result, Ok, Err, refl}
-use Rattle.std.specs.Prelude.{All, not, ◌&&◌, ◌||◌, ◌==◌, nat_lt, is_none, unwrap_or, option_map, IfSome}
+-- Where all checks of an input pass, it is accepted, and what `convert` writes of it is a conversion.
+use Rattle.std.proofs.Common.{◌≡◌, ◌≤◌, ◌<◌, ◌+◌, ◌^◌, ℕ, Bool, true, false, List, [], ◌∷◌, length, drop, Option, Some, None, Result, Ok, Err, refl, sym, ap, subst, ◌∙◌, arith}
+use Rattle.std.specs.Prelude.{All, not, ◌||◌, ◌==◌, option_map, is_none, unwrap_or}
 use Rattle.std.specs.Result.{result_err, result_unwrap_or}
-use Rattle.std.specs.FinMap.{get, insert}
 use Rattle.std.proofs.lemmas.Bool.{eqb-true}
-use Rattle.std.proofs.lemmas.List.Elements.{All-nil, All-cons}
+use Rattle.std.proofs.lemmas.List.{length-take, length-drop}
+use Rattle.std.proofs.lemmas.List.Elements.{All-nil, All-cons, All-head, All-take, All-drop, All-filter, filter_passes}
+use Rattle.bl_format.specs.declared.file.Header.{Header}
 use Rattle.bl_format.specs.declared.file.Head.{Head}
-use Rattle.bl_format.specs.Limits.{most_blocks, most_input_bytes}
-use Rattle.bl_format.specs.Blocks.{header_of, blocks_of}
-use Rattle.bl_format.specs.Nodes.{is_catalogue, catalogues_in, nodes_in}
+use Rattle.bl_format.specs.declared.catalogue.Catalogue.{Catalogue}
+use Rattle.bl_format.specs.Limits.{most_blocks}
+use Rattle.bl_format.specs.Blocks.{header_of, blocks_of, head_size}
+use Rattle.bl_format.specs.Schema.{catalogue_of, IsCatalogue}
+use Rattle.bl_format.specs.Layout.{layout_fault}
+use Rattle.bl_format.specs.Nodes.{File, payload, is_catalogue, catalogues_in, nodes_in, ReadsCatalogue}
 use Rattle.bl_format.proofs.HeaderFacts.{header_facts}
 use Rattle.bl_format.proofs.BlocksOf.{blocks_of_few, reading_of_blocks}
+use Rattle.bl_format.proofs.CatalogueRead.{IsCatalogue-catalogue_of}
+use Rattle.bl_format.proofs.CatalogueFits.{catalogue_of-PartsFit}
 use Rattle.bl_commands.specs.declared.ending.Ending.{Ending}
-use Rattle.bl_commands.specs.declared.ending.Ending.TheVariants.{Absent, BadFile, PastLimit}
+use Rattle.bl_commands.specs.declared.ending.Ending.TheVariants.{BadFile}
 use Rattle.bl_commands.specs.declared.ending.FileFault.TheVariants.{NotBuilt}
-use Rattle.bl_commands.specs.declared.ending.Quantity.TheVariants.{InputBytes}
-use Rattle.bl_commands.specs.declared.command.Command.{Command}
-use Rattle.bl_commands.specs.declared.command.Command.TheVariants.{Convert, Append, Link, Resolve, Recount, Make, Schema, Fates, Query, Dump}
-use Rattle.bl_commands.specs.declared.command.Command.TheVariants as commands
-use Rattle.bl_commands.specs.Texts.{Text, head_ending, block_ending}
-use Rattle.bl_shelf.specs.Told.{Held, Told}
-use Rattle.bl_cli.specs.RawOutput.{raw_output}
+use Rattle.bl_commands.specs.Texts.{head_ending, block_ending, sdna_ending}
 use Rattle.bl_commands.specs.Checks.{first_ending, ending_if}
-use Rattle.bl_cli.specs.Convert.{no_header, header_in, blocks_in, raw_file_in, catalogue_fault, has_struct_block, format_checks, bytes_held, convert_checks}
-use Rattle.bl_cli.specs.Outcome.{convert_outcome, command_outcome}
-use Rattle.bl_cli.specs.Conversion.{IsAccepted, IsConversion, IsCommitted, CommitsConversion}
-use Rattle.bl_cli.specs.Run.{IsDone}
-use Rattle.bl_cli.proofs.Outputs.{all_copied, nodes_few}
-use Rattle.bl_cli.proofs.ReadsBack.{output_reads}
-use Rattle.bl_cli.proofs.AcceptedBack.{accepted_again}
+use Rattle.bl_cli.specs.declared.opened.Opened.{Opened}
+use Rattle.bl_cli.specs.RawOutput.{raw_output, CanBeCopied}
+use Rattle.bl_cli.specs.Opening.{no_header, no_catalogue, header_in, blocks_in, first_payload, catalogue_payload, catalogue_read, catalogue_in, file_in, catalogue_fault, layout_refusal, has_struct_node, format_checks, ReadsWhole, IsOpened}
+use Rattle.bl_cli.specs.Conversion.{IsRawFile, IsConversion}
+use Rattle.bl_cli.proofs.Outputs.{all_copied}
+use Rattle.bl_cli.proofs.ReadsBack.{catalogue_bytes, output_reads}
+use Rattle.bl_cli.proofs.AcceptedBack.{IsRaw, IsNode, raw_faultless, accepted_again}
 
 -- ---- a check that passes
 
-passes : (check : Option Ending) (checks : List (Option Ending)) → first_ending (check ∷ checks) ≡ None → (check ≡ None) × (first_ending checks ≡ None)
+pub passes : (check : Option Ending) (checks : List (Option Ending)) → first_ending (check ∷ checks) ≡ None → (check ≡ None) × (first_ending checks ≡ None)
 passes None checks is = (refl, is)
 passes (Some e) checks is = cc
 
@@ -52,106 +52,172 @@ pub bytes_of_held : (o : Option (List ℕ)) → is_none o ≡ false → o ≡ So
 bytes_of_held None is = cc
 bytes_of_held (Some b) is = refl
 
-one_catalogue : (xs : List Head) → catalogue_fault xs ≡ None → length xs ≡ 1
+-- ---- one catalogue
+
+pub one_catalogue : (xs : List Head) → catalogue_fault xs ≡ None → (x : Head) × (xs ≡ x ∷ [])
 one_catalogue [] is = cc
-one_catalogue (x ∷ []) is = refl
+one_catalogue (x ∷ []) is = (x, refl)
 one_catalogue (x ∷ y ∷ ys) is = cc
 
-abbrev pub IsRaw : Head → Type 0
-IsRaw x = x.index ≡ 0
+one_more : (b : Bool) (x : Head) (xs : List Head) → is_catalogue x ≡ b → length (nodes_in xs) + length (catalogues_in xs) ≡ length xs → length (nodes_in (x ∷ xs)) + length (catalogues_in (x ∷ xs)) ≡ length (x ∷ xs)
+one_more true x xs found rest = rw found (omega (arith, rest))
+one_more false x xs node rest = rw node (omega (arith, rest))
+
+-- each block is a node or holds a catalogue
+all_blocks_counted : (xs : List Head) → length (nodes_in xs) + length (catalogues_in xs) ≡ length xs
+all_blocks_counted [] = refl
+all_blocks_counted (x ∷ xs) = one_more (is_catalogue x) x xs refl (all_blocks_counted xs)
+
+-- ---- raw nodes
 
 rest_raw : (here rest : Bool) → (here || rest) ≡ false → rest ≡ false
 rest_raw true rest is = cc
 rest_raw false rest is = is
 
-first_raw : (zero rest : Bool) → (not false && not zero || rest) ≡ false → zero ≡ true
+first_raw : (zero rest : Bool) → (not zero || rest) ≡ false → zero ≡ true
 first_raw true rest is = refl
 first_raw false rest is = cc
 
--- one block more in front, by whether it is the catalogue's
-raw_more : (x : Head) (xs : List Head) (b : Bool) → is_catalogue x ≡ b → has_struct_block (x ∷ xs) ≡ false → All IsRaw (nodes_in xs) → All IsRaw (nodes_in (x ∷ xs))
-raw_more x xs true found is rest = rw found rest
-raw_more x xs false node is rest =
-    let here : (not false && not (x.index == 0) || has_struct_block xs) ≡ false = rw node at is in
-    rw node (All-cons IsRaw x (nodes_in xs) (eqb-true x.index 0 (first_raw (x.index == 0) (has_struct_block xs) here)) rest)
-
-raw_nodes : (xs : List Head) → has_struct_block xs ≡ false → All IsRaw (nodes_in xs)
+raw_nodes : (xs : List Head) → has_struct_node xs ≡ false → All IsRaw xs
 raw_nodes [] is = All-nil IsRaw
-raw_nodes (x ∷ xs) is = raw_more x xs (is_catalogue x) refl is (raw_nodes xs (rest_raw (not (is_catalogue x) && not (x.index == 0)) (has_struct_block xs) is))
+raw_nodes (x ∷ xs) is =
+    All-cons IsRaw x xs (eqb-true x.index 0 (first_raw (x.index == 0) (has_struct_node xs) is))
+    (raw_nodes xs (rest_raw (not (x.index == 0)) (has_struct_node xs) is))
+
+-- ---- what passing checks say
+
+pub reads_whole : (file b : List ℕ) → first_ending (format_checks file b) ≡ None → ReadsWhole b
+reads_whole file b all =
+    let nodes = nodes_in (blocks_in b) in
+    let head_check = option_map (head_ending file) (result_err (header_of b)) in
+    let block_check = option_map (block_ending file) (result_err (blocks_of (header_in b) b)) in
+    let one_check = option_map (BadFile file) (catalogue_fault (catalogues_in (blocks_in b))) in
+    let sdna_check = option_map (sdna_ending file) (result_err (catalogue_read b)) in
+    let layout_check = option_map (layout_refusal file (catalogue_in b)) (layout_fault (catalogue_in b) (header_in b).width) in
+    let struct_check = ending_if (has_struct_node nodes) (BadFile file NotBuilt) in
+    let first = passes head_check (block_check ∷ one_check ∷ sdna_check ∷ layout_check ∷ struct_check ∷ []) all in
+    let second = passes block_check (one_check ∷ sdna_check ∷ layout_check ∷ struct_check ∷ []) first.1 in
+    let third = passes one_check (sdna_check ∷ layout_check ∷ struct_check ∷ []) second.1 in
+    let fourth = passes sdna_check (layout_check ∷ struct_check ∷ []) third.1 in
+    let fifth = passes layout_check (struct_check ∷ []) fourth.1 in
+    let sixth = passes struct_check [] fifth.1 in
+    let one = one_catalogue (catalogues_in (blocks_in b)) (no_fault (BadFile file) (catalogue_fault (catalogues_in (blocks_in b))) third.0) in
+    record {
+      header = value_of (header_of b) no_header (no_fault (head_ending file) (result_err (header_of b)) first.0);
+      blocks = value_of (blocks_of (header_in b) b) [] (no_fault (block_ending file) (result_err (blocks_of (header_in b) b)) second.0);
+      place = one.0;
+      one_catalogue = one.1;
+      catalogue = value_of (catalogue_read b) no_catalogue (no_fault (sdna_ending file) (result_err (catalogue_read b)) fourth.0);
+      no_layout_fault = no_fault (layout_refusal file (catalogue_in b)) (layout_fault (catalogue_in b) (header_in b).width) fifth.0;
+      raw = raw_nodes nodes (fails_not (has_struct_node nodes) (BadFile file NotBuilt) sixth.0);
+    }
+
+-- the reading of the bytes and of their catalogue
+pub reads_catalogue : (b : List ℕ) (place : Head) → header_of b ≡ Ok (header_in b) → blocks_of (header_in b) b ≡ Ok (blocks_in b) → catalogues_in (blocks_in b) ≡ place ∷ [] → catalogue_read b ≡ Ok (catalogue_in b)
+    → ReadsCatalogue b (header_in b) (blocks_in b) (catalogue_in b)
+reads_catalogue b place header blocks one catalogue = record {
+  reads = reading_of_blocks b (header_in b) (blocks_in b) header blocks;
+  place = place;
+  one_catalogue = one;
+  catalogue = subst (λ (xs : List Head). catalogue_of (header_in b).order (first_payload (header_in b) b xs) ≡ Ok (catalogue_in b)) one catalogue;
+}
+
+-- what is read whole is accepted
+pub accepted_whole : (b : List ℕ) → ReadsWhole b → IsRawFile b (file_in b)
+accepted_whole b w =
+    let place = w.place in
+    let counted : length (nodes_in (blocks_in b)) + 1 ≡ length (blocks_in b) = subst (λ (xs : List Head). length (nodes_in (blocks_in b)) + length xs ≡ length (blocks_in b)) w.one_catalogue (all_blocks_counted (blocks_in b)) in
+    record {
+      accepted = record {
+        blocks = blocks_in b;
+        reads = reads_catalogue b place w.header w.blocks w.one_catalogue w.catalogue;
+        no_layout_fault = w.no_layout_fault;
+        nodes = refl;
+        no_node_fault = raw_faultless (catalogue_in b) (nodes_in (blocks_in b)) w.raw;
+        bytes = refl;
+      };
+      few = omega (arith, counted, blocks_of_few b (header_in b) (blocks_in b) w.blocks);
+      raw = w.raw;
+    }
 
 -- ---- the conversion
 
--- the bytes pass the checks of their format, and are written as a raw file is
-pub converts_bytes : (name b : List ℕ) → first_ending (format_checks name b) ≡ None → IsConversion b (raw_output b (raw_file_in b))
-converts_bytes name b all =
-    let head_check = option_map (head_ending name) (result_err (header_of b)) in
-    let block_check = option_map (block_ending name) (result_err (blocks_of (header_in b) b)) in
-    let catalogue_check = option_map (BadFile name) (catalogue_fault (catalogues_in (blocks_in b))) in
-    let struct_check = ending_if (has_struct_block (blocks_in b)) (BadFile name NotBuilt) in
-    let first = passes head_check (block_check ∷ catalogue_check ∷ struct_check ∷ []) all in
-    let second = passes block_check (catalogue_check ∷ struct_check ∷ []) first.1 in
-    let third = passes catalogue_check (struct_check ∷ []) second.1 in
-    let fourth = passes struct_check [] third.1 in
-    let header : header_of b ≡ Ok (header_in b) = value_of (header_of b) no_header (no_fault (head_ending name) (result_err (header_of b)) first.0) in
-    let blocks : blocks_of (header_in b) b ≡ Ok (blocks_in b) = value_of (blocks_of (header_in b) b) [] (no_fault (block_ending name) (result_err (blocks_of (header_in b) b)) second.0) in
-    let facts = header_facts b (header_in b) header in
-    let few : length (blocks_in b) ≤ most_blocks = blocks_of_few b (header_in b) (blocks_in b) blocks in
-    let accepted : IsAccepted b (raw_file_in b) = record {
-      reads = reading_of_blocks b (header_in b) (blocks_in b) header blocks;
-      few = few;
-      one_catalogue = one_catalogue (catalogues_in (blocks_in b)) (no_fault (BadFile name) (catalogue_fault (catalogues_in (blocks_in b))) third.0);
-      raw = raw_nodes (blocks_in b) (fails_not (has_struct_block (blocks_in b)) (BadFile name NotBuilt) fourth.0);
-    } in
-    let back = output_reads b (raw_file_in b) facts.oldest facts.newest (nodes_few (blocks_in b) most_blocks few) (all_copied b (header_in b) (blocks_in b) blocks) in
+-- the payload of a block is bytes of the file
+payload_bytes : (h : Header) (b : List ℕ) (x : Head) → All (λ y. y < 256) b → All (λ y. y < 256) (payload h b x)
+payload_bytes h b x all = All-take (λ y. y < 256) x.len (drop (x.at + head_size h) b) (All-drop (λ y. y < 256) (x.at + head_size h) b all)
+
+pub payload_short : (h : Header) (b : List ℕ) (x : Head) → length (payload h b x) ≤ x.len
+payload_short h b x = omega (arith, length-take x.len (drop (x.at + head_size h) b))
+
+-- the one catalogue among a file's blocks can be copied
+pub place_copied : (b : List ℕ) (h : Header) (blocks : List Head) (x : Head) → blocks_of h b ≡ Ok blocks → catalogues_in blocks ≡ x ∷ [] → CanBeCopied h b x
+place_copied b h blocks x read one =
+    All-head (CanBeCopied h b) x [] (subst (All (CanBeCopied h b)) one (All-filter is_catalogue (CanBeCopied h b) blocks (all_copied b h blocks read)))
+
+-- what was read is a catalogue, which is written in no more bytes
+pub record IsWritable (h : Header) (c : Catalogue) : Type 0 where
+  pub is_catalogue : IsCatalogue c
+  pub short : length (catalogue_bytes h c) < 2 ^ 31
+
+writable : (h : Header) (b : List ℕ) (x : Head) (c : Catalogue) → All (λ y. y < 256) b → CanBeCopied h b x → catalogue_of h.order (payload h b x) ≡ Ok c → IsWritable h c
+writable h b x c all can reads =
+    let bytes = payload_bytes h b x all in
+    let fits = catalogue_of-PartsFit h.order (payload h b x) c bytes reads in
+    let short = fits.short in
+    let len = can.len in
     record {
-      file = raw_file_in b;
+      is_catalogue = IsCatalogue-catalogue_of h.order (payload h b x) c bytes reads;
+      short = omega (arith, short, len, payload_short h b x);
+    }
+
+-- what was read whole is written again
+pub writable_in : (b : List ℕ) → All (λ y. y < 256) b → ReadsWhole b → IsWritable (header_in b) (catalogue_in b)
+writable_in b bytes w =
+    let h = header_in b in
+    let reads : catalogue_of h.order (payload h b w.place) ≡ Ok (catalogue_in b) = subst (λ (xs : List Head). catalogue_of h.order (first_payload h b xs) ≡ Ok (catalogue_in b)) w.one_catalogue w.catalogue in
+    writable h b w.place (catalogue_in b) bytes (place_copied b h (blocks_in b) w.place w.blocks w.one_catalogue) reads
+
+-- the nodes of what was read can be copied
+pub nodes_copied : (b : List ℕ) → ReadsWhole b → All (CanBeCopied (header_in b) b) (nodes_in (blocks_in b))
+nodes_copied b w = All-filter (λ (x : Head). not (is_catalogue x)) (CanBeCopied (header_in b) b) (blocks_in b) (all_copied b (header_in b) (blocks_in b) w.blocks)
+
+-- what is read whole is written as a conversion
+pub converts_bytes : (b : List ℕ) → All (λ y. y < 256) b → ReadsWhole b → IsConversion b (raw_output (file_in b))
+converts_bytes b bytes w =
+    let f = file_in b in
+    let facts = header_facts b (header_in b) w.header in
+    let accepted = accepted_whole b w in
+    let few = accepted.few in
+    let can = writable_in b bytes w in
+    let back = output_reads f facts.oldest facts.newest (omega (arith, few)) (nodes_copied b w) can.short in
+    record {
+      file = f;
       accepted = accepted;
       written = refl;
-      accepted_back = accepted_again b (raw_output b (raw_file_in b)) (raw_file_in b) accepted back;
+      accepted_back = accepted_again b f accepted (filter_passes (λ (y : Head). not (is_catalogue y)) (blocks_in b)) (nodes_copied b w) can.is_catalogue can.short back;
     }
 
--- where no check of convert gives an ending, its effect is committed as a conversion
-committed_by : (held : Held) (held' : Option Held) (input out : List ℕ) → first_ending (convert_checks held input) ≡ None → held' ≡ Some (insert held out (raw_output (bytes_held held input) (raw_file_in (bytes_held held input)))) → IsCommitted held held' input out
-committed_by held held' input out all stored =
-    let b = bytes_held held input in
-    let absent = ending_if (is_none (get held input)) (Absent input) in
-    let large = ending_if (nat_lt most_input_bytes (length b)) (PastLimit InputBytes (length b)) in
-    let first = passes absent (large ∷ format_checks input b) all in
-    let second = passes large (format_checks input b) first.1 in
+-- an opened file is the file of its bytes
+pub opened_file : (f : Opened) → IsOpened f → ◌≡◌ {A = File} (record { header = f.header; catalogue = f.layout.catalogue; nodes = f.nodes; bytes = f.bytes.items }) (file_in f.bytes.items)
+opened_file f is =
+    let header = is.header in
+    let catalogue = is.catalogue in
+    let nodes = is.nodes in
+    λ i. record { header = header i; catalogue = catalogue i; nodes = nodes i; bytes = f.bytes.items }
+
+same_value : {A E : Type 0} (r : Result A E) (x other : A) → r ≡ Ok x → x ≡ result_unwrap_or r other
+same_value {A = A} {E = E} r x other is = sym (ap (λ (q : Result A E). result_unwrap_or q other) is)
+
+-- what passes the checks is opened
+pub opened_whole : (name : List ℕ) (f : Opened) → All (λ y. y < 256) f.bytes.items → header_of f.bytes.items ≡ Ok f.header → f.nodes ≡ nodes_in (blocks_in f.bytes.items)
+    → catalogue_read f.bytes.items ≡ Ok f.layout.catalogue → f.layout.width ≡ f.header.width → first_ending (format_checks name f.bytes.items) ≡ None → IsOpened f
+opened_whole name f bytes header nodes catalogue width all =
+    let same = same_value (header_of f.bytes.items) f.header no_header header in
     record {
-      old = b;
-      new = raw_output b (raw_file_in b);
-      input_held = bytes_of_held (get held input) (fails_not (is_none (get held input)) (Absent input) first.0);
-      conversion = converts_bytes input b second.1;
-      committed = stored;
+      bytes = bytes;
+      whole = reads_whole name f.bytes.items all;
+      header = same;
+      nodes = nodes;
+      catalogue = same_value (catalogue_read f.bytes.items) f.layout.catalogue no_catalogue catalogue;
+      width = width ∙ ap (λ (h : Header). h.width) same;
     }
-
-convert_commits : (held : Held) (held' : Option Held) (w w' : Option Text) (input out : List ℕ) → IsDone (convert_outcome held input out) held held' w w' → IsCommitted held held' input out
-unfolding convert_outcome
-convert_commits held held' w w' input out done = by_first (first_ending (convert_checks held input)) refl
-  where
-    by_first : (first : Option Ending) → first_ending (convert_checks held input) ≡ first → IsCommitted held held' input out
-    by_first (Some e) is = absurd (rw is at done)
-    by_first None is = let effect = rw is at done in committed_by held held' input out is effect.0
-
-pub command_commits : (command : Option Command) (held : Held) (held' : Option Held) (w w' : Option Text) → IsDone (command_outcome held command) held held' w w' → CommitsConversion command held held'
-command_commits None held held' w w' done = absurd done
-command_commits (Some c) held held' w w' done = by_command c done
-  where
-    by_command : (c : Command) → IsDone (command_outcome held (Some c)) held held' w w' → CommitsConversion (Some c) held held'
-    by_command (Convert input out options) done = convert_commits held held' w w' input out done
-    by_command (Append into lib out names) done = absurd done
-    by_command (Link into lib out names) done = absurd done
-    by_command (Resolve input out) done = absurd done
-    by_command (Recount input out) done = absurd done
-    by_command (Make seed n out) done = absurd done
-    by_command (Schema input) done = absurd done
-    by_command (Fates input cat) done = absurd done
-    by_command (commands.List input) done = absurd done
-    by_command (Query input name path) done = absurd done
-    by_command (Dump input kind) done = absurd done
-
--- the same of a shelf that may tell
-pub run_commits : (told : Option Told) (command : Option Command) (status : ℕ) (held' : Option Held) (w w' : Option Text) → IfSome told (λ t. status ≡ 0 → IsDone (command_outcome t.held command) t.held held' w w') → IfSome told (λ t. status ≡ 0 → CommitsConversion command t.held held')
-run_commits None command status held' w w' done = tt
-run_commits (Some t) command status held' w w' done = λ zero. command_commits command t.held held' w w' (done zero)

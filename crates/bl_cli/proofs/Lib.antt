@@ -1,9 +1,10 @@
 pub mod ReadsBack
 pub mod AcceptedBack
-pub mod Catalogues
-pub mod Converts
 pub mod Outputs
-pub mod Runs
-pub mod Built
+pub mod Opens
+pub mod Outcomes
+pub mod Gathers
 pub mod Conversions
 pub mod Refusals
+pub mod Runs
+pub mod Built

@@ -10,7 +10,7 @@ use Rattle.bl_shelf.specs.Causes.{Rose}
 use Rattle.bl_shelf.specs.Told.{Told, Held}
 use Rattle.bl_shelf.specs.Written.{Grows, GrowsByPrefix}
 use Rattle.bl_cli.specs.Outcome.{Effect}
-use Rattle.bl_cli.specs.Run.{BlamesRisen, IsChecked, IsDone, IsOutsideStatus, outcome_status, own_line, outcome_line, ending_line, PutsEnding, PutsLines, Reports, Concludes}
+use Rattle.bl_cli.specs.Run.{BlamesRisen, IsChecked, IsOutsideStatus, outcome_status, own_text, outcome_line, ending_line, PutsEnding, PutsLines, Reports, Concludes}
 
 abbrev Done : Type 0
 Done = Result (Unit {0}) Ending
@@ -108,11 +108,11 @@ rose_on p q r rose later = omega (arith, rose, later)
 -- ---- lines
 
 -- bytes put one after another
-grown_twice : (a b : List ℕ) (w w1 w2 : Option Text) → Grows w a w1 → Grows w1 b w2 → Grows w (a ++ b) w2
+pub grown_twice : (a b : List ℕ) (w w1 w2 : Option Text) → Grows w a w1 → Grows w1 b w2 → Grows w (a ++ b) w2
 grown_twice a b None w1 w2 first second = second ∙ ap (option_map (λ (x : List ℕ). x ++ b)) first
 grown_twice a b (Some w) w1 w2 first second = second ∙ ap (option_map (λ (x : List ℕ). x ++ b)) first ∙ ap Some (append_assoc w a b)
 
-same_grown : (w w' : Option Text) → w' ≡ w → Grows w [] w'
+pub same_grown : (w w' : Option Text) → w' ≡ w → Grows w [] w'
 same_grown None w' same = same
 same_grown (Some w) w' same = same ∙ ap Some (sym (append-nil w))
 
@@ -129,12 +129,12 @@ line_of_status outcome (endings.PastLimit quantity count) is not_sink = ap outco
 line_of_status outcome endings.Sink is not_sink = absurd (not_sink refl)
 
 -- a part of the effect's line, and then what is reported
-put_lines : (outcome : Result Effect Ending) (e : Ending) (status puts1 puts2 puts : ℕ) (w w1 w2 : Option Text) → puts ≤ puts1 → IsChecked (result_err outcome) e → status ≢ 10 → GrowsByPrefix w (own_line outcome) w1 → Reports e status puts1 puts2 w1 w2
+put_lines : (outcome : Result Effect Ending) (e : Ending) (status puts1 puts2 puts : ℕ) (w w1 w2 : Option Text) → puts ≤ puts1 → IsChecked (result_err outcome) e → status ≢ 10 → GrowsByPrefix w (own_text outcome) w1 → Reports e status puts1 puts2 w1 w2
     → PutsLines outcome status puts puts2 w w2
 put_lines outcome e status puts1 puts2 puts w w1 w2 later checked not_sink own (inr none) = record {
   own = own.0;
   told = 0;
-  lines = grown_twice (take own.0 (own_line outcome)) [] w w1 w2 own.1 (same_grown w1 w2 none.1);
+  lines = grown_twice (take own.0 (own_text outcome)) [] w w1 w2 own.1 (same_grown w1 w2 none.1);
   whole = inl none.0;
 }
 put_lines outcome e status puts1 puts2 puts w w1 w2 later checked not_sink own (inl is) = by_whole is.1.whole
@@ -146,13 +146,13 @@ put_lines outcome e status puts1 puts2 puts w w1 w2 later checked not_sink own (
     by_whole (inl rose) = record {
       own = own.0;
       told = is.1.part.0;
-      lines = grown_twice (take own.0 (own_line outcome)) (take is.1.part.0 (ending_line outcome status)) w w1 w2 own.1 (subst (λ x. Grows w1 (take is.1.part.0 x) w2) (sym line) is.1.part.1);
+      lines = grown_twice (take own.0 (own_text outcome)) (take is.1.part.0 (ending_line outcome status)) w w1 w2 own.1 (subst (λ x. Grows w1 (take is.1.part.0 x) w2) (sym line) is.1.part.1);
       whole = inr (inl (omega (arith, rose, later)));
     }
     by_whole (inr grown) = record {
       own = own.0;
       told = length (ending_line outcome status);
-      lines = grown_twice (take own.0 (own_line outcome)) (take (length (ending_line outcome status)) (ending_line outcome status)) w w1 w2 own.1 (subst (λ x. Grows w1 x w2) (sym line ∙ sym (take_all (length (ending_line outcome status)) (ending_line outcome status) (omega arith))) grown);
+      lines = grown_twice (take own.0 (own_text outcome)) (take (length (ending_line outcome status)) (ending_line outcome status)) w w1 w2 own.1 (subst (λ x. Grows w1 x w2) (sym line ∙ sym (take_all (length (ending_line outcome status)) (ending_line outcome status) (omega arith))) grown);
       whole = inr (inr (omega arith));
     }
 
@@ -180,38 +180,39 @@ sink_reports puts w = inl (refl, record { part = (0, same_grown w w refl); whole
 take_none : (n : ℕ) → take {A = ℕ} n [] ≡ []
 take_none n = take_all {A = ℕ} n [] (omega arith)
 
-put_part : (outcome : Result Effect Ending) (e : Ending) (status puts1 puts2 : ℕ) (w w1 w2 : Option Text) → status ≡ 10 → GrowsByPrefix w (own_line outcome) w1 → Reports e status puts1 puts2 w1 w2 → GrowsByPrefix w (own_line outcome) w2
+put_part : (outcome : Result Effect Ending) (e : Ending) (status puts1 puts2 : ℕ) (w w1 w2 : Option Text) → status ≡ 10 → GrowsByPrefix w (own_text outcome) w1 → Reports e status puts1 puts2 w1 w2 → GrowsByPrefix w (own_text outcome) w2
 put_part outcome e status puts1 puts2 w w1 w2 ten own (inr none) = absurd (omega (arith, none.0, ten))
 put_part outcome e status puts1 puts2 w w1 w2 ten own (inl is) =
     let told = nothing_told e puts1 puts2 w1 w2 (sym is.0 ∙ ten) is.1 in
-    let whole = grown_twice (take own.0 (own_line outcome)) (take told.0 []) w w1 w2 own.1 told.1 in
-    (own.0, subst (λ x. Grows w x w2) (ap (λ x. take own.0 (own_line outcome) ++ x) (take_none told.0) ∙ append-nil (take own.0 (own_line outcome))) whole)
+    let whole = grown_twice (take own.0 (own_text outcome)) (take told.0 []) w w1 w2 own.1 told.1 in
+    (own.0, subst (λ x. Grows w x w2) (ap (λ x. take own.0 (own_text outcome) ++ x) (take_none told.0) ∙ append-nil (take own.0 (own_text outcome))) whole)
 
 -- ---- the run of a shelf that may tell
 
-module _ (told : Option Told) (outcome : Held → Result Effect Ending) (done : Done) (status : ℕ) (misses misses' faults faults' puts puts1 puts2 : ℕ) (w w1 w2 : Option Text) (held' : Option Held) where
-  pub run_done : Concludes done status puts1 puts2 w1 w2 → OnOk done (IfSome told (λ t. IsDone (outcome t.held) t.held held' w w1)) → IfSome told (λ t. status ≡ 0 → IsDone (outcome t.held) t.held held' w w2)
-  run_done concludes is_done = by_told told done concludes is_done
+module _ (told : Option Told) (outcome : Held → Result Effect Ending) (done : Done) (status : ℕ) (puts puts1 puts2 : ℕ) (w w1 w2 : Option Text) where
+  -- what is done without an ending is done by a run of status 0
+  pub run_accomplished : (P : Held → Option Text → Type 0) → Concludes done status puts1 puts2 w1 w2 → OnOk done (IfSome told (λ t. P t.held w1)) → IfSome told (λ t. status ≡ 0 → P t.held w2)
+  run_accomplished P concludes is_done = by_told told done concludes is_done
     where
-      by_told : (told : Option Told) (done : Done) → Concludes done status puts1 puts2 w1 w2 → OnOk done (IfSome told (λ t. IsDone (outcome t.held) t.held held' w w1)) → IfSome told (λ t. status ≡ 0 → IsDone (outcome t.held) t.held held' w w2)
+      by_told : (told : Option Told) (done : Done) → Concludes done status puts1 puts2 w1 w2 → OnOk done (IfSome told (λ t. P t.held w1)) → IfSome told (λ t. status ≡ 0 → P t.held w2)
       by_told None done ends is_done = tt
-      by_told (Some t) (Ok u) ends is_done = λ zero. subst (λ x. IsDone (outcome t.held) t.held held' w x) (sym ends.2) is_done
+      by_told (Some t) (Ok u) ends is_done = λ zero. subst (P t.held) (sym ends.2) is_done
       by_told (Some t) (Err e) ends is_done = λ zero. absurd (elim (reported e status puts1 puts2 w1 w2 ends) [ inl same ↦ let bounds = status_bounds e in omega (arith, same, zero, bounds.0) | inr three ↦ omega (arith, three, zero) ])
 
-  pub run_lines : Concludes done status puts1 puts2 w1 w2 → puts ≤ puts1 → IfErr done (λ e. IfSome told (λ t. IsChecked (result_err (outcome t.held)) e)) → OnErr done (IfSome told (λ t. GrowsByPrefix w (own_line (outcome t.held)) w1))
+  pub run_lines : Concludes done status puts1 puts2 w1 w2 → puts ≤ puts1 → IfErr done (λ e. IfSome told (λ t. IsChecked (result_err (outcome t.held)) e)) → OnErr done (IfSome told (λ t. GrowsByPrefix w (own_text (outcome t.held)) w1))
       → IfSome told (λ t. status ≢ 0 → status ≢ 10 → PutsLines (outcome t.held) status puts puts2 w w2)
   run_lines concludes later checked part = by_told told done concludes checked part
     where
-      by_told : (told : Option Told) (done : Done) → Concludes done status puts1 puts2 w1 w2 → IfErr done (λ e. IfSome told (λ t. IsChecked (result_err (outcome t.held)) e)) → OnErr done (IfSome told (λ t. GrowsByPrefix w (own_line (outcome t.held)) w1))
+      by_told : (told : Option Told) (done : Done) → Concludes done status puts1 puts2 w1 w2 → IfErr done (λ e. IfSome told (λ t. IsChecked (result_err (outcome t.held)) e)) → OnErr done (IfSome told (λ t. GrowsByPrefix w (own_text (outcome t.held)) w1))
           → IfSome told (λ t. status ≢ 0 → status ≢ 10 → PutsLines (outcome t.held) status puts puts2 w w2)
       by_told None done ends checked part = tt
       by_told (Some t) (Ok u) ends checked part = λ not_zero not_ten. absurd (not_zero ends.0)
       by_told (Some t) (Err e) ends checked part = λ not_zero not_ten. put_lines (outcome t.held) e status puts1 puts2 puts w w1 w2 later checked not_ten part ends
 
-  pub run_part : Concludes done status puts1 puts2 w1 w2 → OnErr done (IfSome told (λ t. GrowsByPrefix w (own_line (outcome t.held)) w1)) → IfSome told (λ t. status ≡ 10 → GrowsByPrefix w (own_line (outcome t.held)) w2)
+  pub run_part : Concludes done status puts1 puts2 w1 w2 → OnErr done (IfSome told (λ t. GrowsByPrefix w (own_text (outcome t.held)) w1)) → IfSome told (λ t. status ≡ 10 → GrowsByPrefix w (own_text (outcome t.held)) w2)
   run_part concludes part = by_told told done concludes part
     where
-      by_told : (told : Option Told) (done : Done) → Concludes done status puts1 puts2 w1 w2 → OnErr done (IfSome told (λ t. GrowsByPrefix w (own_line (outcome t.held)) w1)) → IfSome told (λ t. status ≡ 10 → GrowsByPrefix w (own_line (outcome t.held)) w2)
+      by_told : (told : Option Told) (done : Done) → Concludes done status puts1 puts2 w1 w2 → OnErr done (IfSome told (λ t. GrowsByPrefix w (own_text (outcome t.held)) w1)) → IfSome told (λ t. status ≡ 10 → GrowsByPrefix w (own_text (outcome t.held)) w2)
       by_told None done ends part = tt
       by_told (Some t) (Ok u) ends part = λ ten. absurd (omega (arith, ends.0, ten))
       by_told (Some t) (Err e) ends part = λ ten. put_part (outcome t.held) e status puts1 puts2 w w1 w2 ten part ends

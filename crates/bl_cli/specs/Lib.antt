@@ -1,7 +1,8 @@
 pub mod RawOutput
-pub mod Convert
+pub mod Opening
 pub mod Outcome
 pub mod Run
 pub mod Refusal
-pub mod Prepared
 pub mod Conversion
+pub mod Prepared
+pub mod Printing

@@ -4,43 +4,66 @@ use Rattle.std.specs.String.{string_bytes}
 use Rattle.std.specs.declared.alloc.Global.{Global}
 use Rattle.bl_format.specs.Nodes.{nodes_in}
 use Rattle.bl_commands.specs.declared.command.Command.{Command}
-use Rattle.bl_commands.specs.declared.command.Command.TheVariants.{Convert}
+use Rattle.bl_commands.specs.declared.command.Command.TheVariants.{Convert, Schema}
 use Rattle.bl_commands.specs.declared.ending.Ending.{Ending}
 use Rattle.bl_commands.specs.declared.ending.Ending.TheVariants.{NoCommand}
 use Rattle.bl_commands.specs.Commands.{command_of}
 use Rattle.bl_commands.specs.Texts.{Text, summary_line}
-use Rattle.bl_shelf.specs.Told.{Held}
 use Rattle.bl_commands.specs.Checks.{first_ending}
+use Rattle.bl_answers.specs.Printed.{schema_text}
+use Rattle.bl_shelf.specs.Told.{Held, Staged, files_with}
 use Rattle.bl_cli.specs.RawOutput.{raw_output}
-use Rattle.bl_cli.specs.Convert.{bytes_held, blocks_in, raw_file_in, convert_checks}
+use Rattle.bl_cli.specs.Opening.{header_in, blocks_in, catalogue_in, file_in, bytes_held, input_checks}
 
--- what a command that writes does: it holds these bytes under the name, and puts the line
+-- what a command does: it holds a file, if it makes one, and puts a text
 pub record Effect : Type 0 where
-  pub name : List ℕ
-  pub bytes : List ℕ
-  pub line : Text
+  pub file : Option Staged
+  pub text : Text
 
--- the line of convert on its input's bytes
-abbrev pub convert_line : List ℕ → Text
-convert_line b = summary_line (length (nodes_in (blocks_in b))) (length (raw_output b (raw_file_in b)))
-
--- the effect of convert on its input's bytes, under the word OUT
-abbrev pub convert_effect : List ℕ → List ℕ → Effect
-convert_effect b out = record { name = out; bytes = raw_output b (raw_file_in b); line = convert_line b }
+-- the files with that of the effect among them
+abbrev pub files_with_effect : Held → Effect → Held
+files_with_effect held effect = files_with held effect.file
 
 -- an effect, unless a check gives an ending
 abbrev pub unless_ending : Option Ending → Effect → Result Effect Ending
 unless_ending (Some ending) effect = Err ending
 unless_ending None effect = Ok effect
 
+-- ---- convert
+
+-- the line of convert on its input's bytes
+abbrev pub convert_line : List ℕ → Text
+convert_line b = summary_line (length (nodes_in (blocks_in b))) (length (raw_output (file_in b)))
+
+-- the effect of convert on its input's bytes, under the word OUT
+abbrev pub convert_effect : List ℕ → List ℕ → Effect
+convert_effect b out = record {
+  file = Some (record { name = out; bytes = raw_output (file_in b) });
+  text = convert_line b;
+}
+
 -- what convert does with the words IN and OUT, by what is held
 unfoldable pub convert_outcome : Held → List ℕ → List ℕ → Result Effect Ending
 convert_outcome held input out =
-    unless_ending (first_ending (convert_checks held input)) (convert_effect (bytes_held held input) out)
+    unless_ending (first_ending (input_checks held input)) (convert_effect (bytes_held held input) out)
+
+-- ---- schema
+
+-- the effect of schema on its input's bytes: it prints the header and the catalogue's structs
+abbrev pub schema_effect : List ℕ → Effect
+schema_effect b = record { file = None; text = schema_text (header_in b) (catalogue_in b) }
+
+-- what schema does with the word IN, by what is held
+unfoldable pub schema_outcome : Held → List ℕ → Result Effect Ending
+schema_outcome held input =
+    unless_ending (first_ending (input_checks held input)) (schema_effect (bytes_held held input))
+
+-- ---- a run
 
 -- each command has its own outcome; one that isn't built has none
 abbrev pub command_outcome : Held → Option Command → Result Effect Ending
 command_outcome held (Some (Convert input out options)) = convert_outcome held input out
+command_outcome held (Some (Schema input)) = schema_outcome held input
 command_outcome held _ = Err NoCommand
 
 -- the command that the words of a run spell

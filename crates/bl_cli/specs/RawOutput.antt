@@ -1,12 +1,13 @@
 -- What `convert` writes of a file of raw blocks, in the file's own form.
-use Rattle.std.specs.Prelude.{◌≡◌, ◌≤◌, ◌<◌, ℕ, ◌+◌, ◌-◌, ◌*◌, ◌^◌, false, List, [], ◌∷◌, ◌++◌, length, flat_map, map, codes}
+use Rattle.std.specs.Prelude.{◌≡◌, ◌≤◌, ◌<◌, ℕ, ◌+◌, ◌-◌, ◌*◌, ◌^◌, false, List, [], ◌∷◌, ◌++◌, length, codes}
 use Rattle.std.specs.Str.{bytes_eq}
 use Rattle.bl_format.specs.declared.file.Header.{Header}
 use Rattle.bl_format.specs.declared.file.Head.{Head}
+use Rattle.bl_format.specs.declared.catalogue.Catalogue.{Catalogue}
 use Rattle.bl_format.specs.Words.{zeros}
 use Rattle.bl_format.specs.Blocks.{header_size, head_size, header_written, head_written, code_meant}
-use Rattle.bl_format.specs.Nodes.{payload, catalogues_in, nodes_in}
-use Rattle.bl_cli.specs.declared.raw_file.RawFile.{RawFile}
+use Rattle.bl_format.specs.Schema.{catalogue_written}
+use Rattle.bl_format.specs.Nodes.{File, payload}
 
 -- ---- heads
 
@@ -21,11 +22,11 @@ node_head k x = record {
   at = 0;
 }
 
--- the head of the catalogue: address 0, no struct, count 1, and the code and the length as read
-abbrev pub catalogue_head : Head → Head
-catalogue_head x = record {
-  code = x.code;
-  len = x.len;
+-- the head of a catalogue of so many bytes: address 0, no struct, count 1
+abbrev pub catalogue_head : ℕ → Head
+catalogue_head len = record {
+  code = codes "DNA1";
+  len = len;
   address = 0;
   index = 0;
   count = 1;
@@ -43,32 +44,33 @@ pub record CanBeCopied (h : Header) (b : List ℕ) (x : Head) : Type 0 where
 
 -- ---- bytes
 
--- a head, and the payload that was read behind another
-abbrev pub block_copied : Header → List ℕ → Head → Head → List ℕ
-block_copied h b head from = head_written h head ++ payload h b from
+-- node k with the payload that was read
+abbrev pub node_block : Header → List ℕ → ℕ → Head → List ℕ
+node_block h b k x = head_written h (node_head k x) ++ payload h b x
 
 -- nodes one after another, the first of which is node k
 abbrev pub node_blocks : Header → List ℕ → ℕ → List Head → List ℕ
 node_blocks h b k [] = []
-node_blocks h b k (x ∷ xs) = block_copied h b (node_head k x) x ++ node_blocks h b (k + 1) xs
+node_blocks h b k (x ∷ xs) = node_block h b k x ++ node_blocks h b (k + 1) xs
 
--- the catalogue
-abbrev pub catalogue_blocks : Header → List ℕ → List Head → List ℕ
-catalogue_blocks h b catalogues = flat_map (λ x. block_copied h b (catalogue_head x) x) catalogues
+-- a head, and the catalogue as it is written
+unfoldable pub catalogue_block : Header → Catalogue → List ℕ
+catalogue_block h c =
+    head_written h (catalogue_head (length (catalogue_written h.order c))) ++ catalogue_written h.order c
 
 -- `ENDB` and zeros, as long as a head
 abbrev pub end_written : Header → List ℕ
 end_written h = codes "ENDB" ++ zeros (head_size h - 4)
 
 -- the header, the nodes, the catalogue, and the end
-unfoldable pub raw_output : List ℕ → RawFile → List ℕ
-raw_output b f =
+unfoldable pub raw_output : File → List ℕ
+raw_output f =
     header_written f.header
-    ++ (node_blocks f.header b 0 (nodes_in f.blocks)
-    ++ (catalogue_blocks f.header b (catalogues_in f.blocks)
+    ++ (node_blocks f.header f.bytes 0 f.nodes
+    ++ (catalogue_block f.header f.catalogue
     ++ end_written f.header))
 
--- ---- the blocks as which the output reads
+-- ---- the file as which the output reads
 
 -- the heads of nodes, the first of which is node k
 abbrev pub node_heads : ℕ → List Head → List Head
@@ -80,8 +82,11 @@ abbrev pub placed_from : Header → ℕ → List Head → List Head
 placed_from h at [] = []
 placed_from h at (x ∷ xs) = record x { at = at } ∷ placed_from h (at + (head_size h + x.len)) xs
 
--- the nodes and the catalogue, at their places behind the header
-unfoldable pub output_blocks : RawFile → List Head
-output_blocks f =
-    placed_from f.header (header_size f.header)
-    (node_heads 0 (nodes_in f.blocks) ++ map catalogue_head (catalogues_in f.blocks))
+-- the nodes with their new addresses and places; all else is as it was
+unfoldable pub output_file : File → File
+output_file f = record {
+  header = f.header;
+  catalogue = f.catalogue;
+  nodes = placed_from f.header (header_size f.header) (node_heads 0 f.nodes);
+  bytes = raw_output f;
+}

@@ -1,18 +1,17 @@
 -- What the clauses of a run say: of the files, of the lines, and of the status.
 use Rattle.std.specs.Prelude.{◌≡◌, ◌⊎◌, ⊤, ℕ, ◌≤◌, ◌==◌, if◌then◌else◌, List, [], ◌++◌, length, take, Option, Some, Result, Ok, Err, IfErr, IsOkAnd}
-use Rattle.std.specs.FinMap.{insert}
 use Rattle.bl_commands.specs.declared.ending.Ending.{Ending}
 use Rattle.bl_commands.specs.declared.ending.Ending.TheVariants.{NoCommand, NoMemory, Absent, Device, BadFile, Sink}
 use Rattle.bl_commands.specs.declared.ending.FileFault.{FileFault}
 use Rattle.bl_commands.specs.declared.command.Command.{Command}
-use Rattle.bl_commands.specs.declared.command.Command.TheVariants.{Convert}
+use Rattle.bl_commands.specs.declared.command.Command.TheVariants.{Convert, Schema}
 use Rattle.bl_commands.specs.Texts.{Text, status_of, fault_line}
 use Rattle.bl_shelf.specs.declared.shelf.ShelfFault.{ShelfFault}
 use Rattle.bl_shelf.specs.declared.shelf.ShelfFault.TheVariants as shelf
 use Rattle.bl_shelf.specs.Told.{Held, with_file}
 use Rattle.bl_shelf.specs.Causes.{Rose}
 use Rattle.bl_shelf.specs.Written.{Grows, GrowsByPrefix}
-use Rattle.bl_cli.specs.Outcome.{Effect}
+use Rattle.bl_cli.specs.Outcome.{Effect, files_with_effect}
 
 -- ---- causes
 
@@ -80,6 +79,7 @@ IsUsageOrNoMemory result = (result ≡ Err NoCommand) ⊎ (result ≡ Err NoMemo
 -- a command that this program has today; the words spell no other
 abbrev pub IsBuilt : Command → Type 0
 IsBuilt (Convert input out options) = ⊤
+IsBuilt (Schema input) = ⊤
 IsBuilt _ = ⊥
 
 -- ---- what is stored
@@ -91,14 +91,10 @@ IsUnstored name bytes held held' ending =
 
 -- ---- what is done
 
--- the files with the effect's bytes under its name
-abbrev pub files_with_effect : Held → Effect → Held
-files_with_effect held effect = insert held effect.name effect.bytes
-
--- the outcome is an effect, the files have it, and its line is put
+-- the outcome is an effect, the files have it, and its text is put
 abbrev pub IsDone : Result Effect Ending → Held → Option Held → Option Text → Option Text → Type 0
 IsDone outcome held held' written written' =
-    IsOkAnd outcome (λ effect. (held' ≡ Some (files_with_effect held effect)) × Grows written effect.line written')
+    IsOkAnd outcome (λ effect. (held' ≡ Some (files_with_effect held effect)) × Grows written effect.text written')
 
 -- the files are as before; or, where a device failed the commit, they have the effect
 abbrev pub IsLeft : Result Effect Ending → Held → Option Held → Ending → Type 0
@@ -108,10 +104,10 @@ IsLeft outcome held held' ending =
 
 -- ---- lines
 
--- the line that the outcome's effect puts
-abbrev pub own_line : Result Effect Ending → Text
-own_line (Ok effect) = effect.line
-own_line (Err ending) = []
+-- the text that the outcome's effect puts
+abbrev pub own_text : Result Effect Ending → Text
+own_text (Ok effect) = effect.text
+own_text (Err ending) = []
 
 -- ---- the status
 
@@ -136,12 +132,12 @@ ending_line outcome status =
     if status == 5 then fault_line Device else
     outcome_line outcome
 
--- A part of the effect's own line is put, and then the line that tells what ended the run. That is cut only
+-- A part of the effect's own text is put, and then the line that tells what ended the run. That is cut only
 -- where memory is wanted or the sink's faults rose.
 pub record PutsLines (outcome : Result Effect Ending) (status puts puts' : ℕ) (written written' : Option Text) : Type 0 where
   pub own : ℕ
   pub told : ℕ
-  pub lines : Grows written (take own (own_line outcome) ++ take told (ending_line outcome status)) written'
+  pub lines : Grows written (take own (own_text outcome) ++ take told (ending_line outcome status)) written'
   pub whole : (status ≡ 3) ⊎ (Rose puts puts' ⊎ (length (ending_line outcome status) ≤ told))
 
 -- the line of an ending is put; cut only where the sink's faults rose

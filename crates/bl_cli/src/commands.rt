@@ -5,12 +5,13 @@ ghost use Rattle.bl_commands.specs.Texts.{status_of};
 ghost use Rattle.bl_shelf.specs.Causes.{Rose};
 ghost use Rattle.bl_shelf.specs.Told.{held_of};
 ghost use Rattle.bl_shelf.specs.Written.{GrowsByPrefix};
-ghost use Rattle.bl_cli.specs.Conversion.{CommitsConversion};
+ghost use Rattle.bl_cli.specs.Conversion.{Accomplishes};
 ghost use Rattle.bl_cli.specs.Outcome.{command_in, command_outcome, run_outcome};
 ghost use Rattle.bl_cli.specs.Refusal.{HasCauseIn};
-ghost use Rattle.bl_cli.specs.Run.{Concludes, IsBuilt, IsCaused, IsChecked, IsDone, IsOutsideStatus, IsLeft, IsNotUsage, IsUsageOrNoMemory, LeavesFiles, PutsLines, Reports, outcome_status, own_line};
+ghost use Rattle.bl_cli.specs.Run.{Concludes, IsBuilt, IsCaused, IsChecked, IsDone, IsOutsideStatus, IsLeft, IsNotUsage, IsUsageOrNoMemory, LeavesFiles, PutsLines, Reports, outcome_status, own_text};
 
 use crate::convert::convert;
+use crate::schema::schema;
 use bl_lines::{Ending, fault_line, status_of};
 use bl_shelf::{Shelf, Sink, SinkFault};
 use bl_words::{Command, command_of};
@@ -31,11 +32,14 @@ fn obey<S: Shelf, O: Sink>(
         (O.written out.old) (O.written out.new))) }
     ensures checked { IfErr result (λ ending. IfSome (S.told shelf.old) (λ t.
         IsChecked (result_err (command_outcome t.held (Some command.now))) ending)) }
+    ensures accomplishes { OnOk result (IfSome (S.told shelf.old) (λ t.
+        Accomplishes (Some command.now) t.held (held_of (S.told shelf.new))
+        (O.written out.old) (O.written out.new))) }
     ensures left { IfErr result (λ ending. IfSome (S.told shelf.old) (λ t.
         IsLeft (command_outcome t.held (Some command.now)) t.held (held_of (S.told shelf.new))
         ending)) }
     ensures part { OnErr result (IfSome (S.told shelf.old) (λ t.
-        GrowsByPrefix (O.written out.old) (own_line (command_outcome t.held (Some command.now)))
+        GrowsByPrefix (O.written out.old) (own_text (command_outcome t.held (Some command.now)))
         (O.written out.new))) }
     ensures cause { IsCaused (S.misses shelf.old) (S.misses shelf.new) (S.faults shelf.old)
         (S.faults shelf.new) (O.faults out.old) (O.faults out.new) result }
@@ -47,6 +51,7 @@ fn obey<S: Shelf, O: Sink>(
             out: name,
             ..
         } => convert(alloc, input.as_str(), name.as_str(), shelf, out),
+        Command::Schema { input } => schema(alloc, input.as_str(), shelf, out),
         _ => unreachable!(),
     }
 }
@@ -65,12 +70,15 @@ fn perform<S: Shelf, O: Sink>(
         (held_of (S.told shelf.new)) (O.written out.old) (O.written out.new))) }
     ensures checked { IfErr result (λ ending. IfSome (S.told shelf.old) (λ t.
         IsChecked (result_err (run_outcome t.held words.now)) ending)) }
+    ensures accomplishes { OnOk result (IfSome (S.told shelf.old) (λ t.
+        Accomplishes (command_in words.now) t.held (held_of (S.told shelf.new))
+        (O.written out.old) (O.written out.new))) }
     ensures left { IfErr result (λ ending. IfSome (S.told shelf.old) (λ t.
         IsLeft (run_outcome t.held words.now) t.held
         (held_of (S.told shelf.new)) ending)) }
     ensures part { OnErr result (IfSome (S.told shelf.old) (λ t.
         GrowsByPrefix (O.written out.old)
-        (own_line (run_outcome t.held words.now)) (O.written out.new))) }
+        (own_text (run_outcome t.held words.now)) (O.written out.new))) }
     ensures cause { IsCaused (S.misses shelf.old) (S.misses shelf.new) (S.faults shelf.old)
         (S.faults shelf.new) (O.faults out.old) (O.faults out.new) result }
     ensures usage { result ≡ Err Ending.NoCommand → command_in words.now ≡ None }
@@ -144,10 +152,10 @@ pub fn run<S: Shelf, O: Sink>(alloc: Global, words: &[String], shelf: &mut S, ou
         → IsDone (run_outcome t.held words.now) t.held
         (held_of (S.told shelf.new)) (O.written out.old) (O.written out.new)) }
 
-    // What is committed then: a conversion of the input, which reads back.
-    ensures commits { IfSome (S.told shelf.old) (λ t. result ≡ 0
-        → CommitsConversion (command_in words.now) t.held
-        (held_of (S.told shelf.new))) }
+    // What that is: a conversion of the input, which reads back, or the print of its catalogue.
+    ensures accomplishes { IfSome (S.told shelf.old) (λ t. result ≡ 0
+        → Accomplishes (command_in words.now) t.held (held_of (S.told shelf.new))
+        (O.written out.old) (O.written out.new)) }
 
     // What another status leaves, and which lines are put.
     ensures left { IfSome (S.told shelf.old) (λ t. result ≢ 0
@@ -158,7 +166,7 @@ pub fn run<S: Shelf, O: Sink>(alloc: Global, words: &[String], shelf: &mut S, ou
         (O.faults out.old) (O.faults out.new) (O.written out.old) (O.written out.new)) }
     ensures part { IfSome (S.told shelf.old) (λ t. result ≡ 10
         → GrowsByPrefix (O.written out.old)
-        (own_line (run_outcome t.held words.now)) (O.written out.new)) }
+        (own_text (run_outcome t.held words.now)) (O.written out.new)) }
 
     // The causes of the statuses that come from outside, and of no command, of any shelf.
     ensures usage { result ≡ 2 → command_in words.now ≡ None }

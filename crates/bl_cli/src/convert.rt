@@ -1,20 +1,19 @@
 // Converts a file in its own form.
-ghost use Rattle.std.specs.Prelude.{◌≡◌, ℕ, List, length, None, Ok, OnOk, OnErr, IfOk, IfErr, IfSome};
+ghost use Rattle.std.specs.Prelude.{◌≡◌, ℕ, List, None, Some, Ok, OnOk, OnErr, IfOk, IfErr, IfSome};
 ghost use Rattle.std.specs.Result.{result_err};
-ghost use Rattle.bl_format.specs.Nodes.{nodes_in};
 ghost use Rattle.bl_shelf.specs.Told.{held_of};
 ghost use Rattle.bl_shelf.specs.Written.{GrowsByPrefix};
-ghost use Rattle.bl_commands.specs.Checks.{first_ending};
-ghost use Rattle.bl_cli.specs.Convert.{format_checks};
+ghost use Rattle.bl_cli.specs.Opening.{IsOpened};
 ghost use Rattle.bl_cli.specs.Outcome.{convert_outcome};
+ghost use Rattle.bl_cli.specs.Conversion.{IsCommitted, IsConvertedFrom};
 ghost use Rattle.bl_cli.specs.Prepared.{IsOutputOf};
-ghost use Rattle.bl_cli.specs.Run.{IsCaused, IsChecked, IsDone, BlamesNothing, IsLeft, IsNotUsage, own_line};
+ghost use Rattle.bl_cli.specs.Run.{IsCaused, IsChecked, IsDone, IsLeft, IsNotUsage, own_text};
 
-use crate::files::{read_input, store};
-use crate::raw_file::{is_catalogue, open_raw};
+use crate::files::store;
+use crate::opened::{Opened, open};
 use crate::raw_output::raw_output;
-use bl_blocks::Head;
 use bl_lines::{Ending, summary_line};
+use bl_num::NoMemory;
 use bl_shelf::{Shelf, Sink};
 use std::alloc::Global;
 
@@ -25,46 +24,40 @@ pub struct Output {
     pub line: Vec<u8>,
 }
 
-// How many of the blocks are nodes.
-fn node_count(blocks: &[Head]) -> usize
-    ensures { result ≡ length (nodes_in blocks.now) }
+// What becomes of an opened file.
+fn output_of(alloc: Global, file: &Opened) -> Result<Output, NoMemory>
+    requires { IsOpened file.now }
+    ensures { IfOk result (IsOutputOf file.now.bytes.items) }
 {
-    blocks.iter().filter(|block| !is_catalogue(block)).count()
+    let bytes = raw_output(alloc, file)?;
+    let nodes = file.nodes.as_slice().len();
+    let line = summary_line(alloc, nodes as u64, bytes.len() as u64)?;
+    Ok(Output { bytes, line })
 }
 
-// Converts bytes, and tells of it in a line.
-fn convert_bytes(alloc: Global, input: &str, bytes: &[u8]) -> Result<Output, Ending>
-    ensures ok { IfOk result (IsOutputOf input.now bytes.now) }
-    ensures checked { IfErr result (IsChecked (first_ending (format_checks input.now bytes.now))) }
-    ensures inside { IfErr result BlamesNothing }
-{
-    match open_raw(alloc, input, bytes) {
-        Err(ending) => Err(ending),
-        Ok(file) => {
-            let new = raw_output(alloc, bytes, &file)?;
-            let nodes = node_count(file.blocks.as_slice());
-            let line = summary_line(alloc, nodes as u64, new.len() as u64)?;
-            Ok(Output { bytes: new, line })
-        }
-    }
-}
-
-// Reads an input, and converts its bytes.
+// Opens an input, and says what becomes of it.
 fn prepare<S: Shelf>(alloc: Global, input: &str, shelf: &mut S) -> Result<Output, Ending>
     ensures told { S.told shelf.new ≡ S.told shelf.old }
     ensures room { S.room shelf.new ≡ S.room shelf.old }
     ensures known { IfOk result (λ output. IfSome (S.told shelf.old) (λ t. (name : List ℕ)
-        → convert_outcome t.held input.now name
-        ≡ Ok (record { name = name; bytes = output.bytes.items; line = output.line.items }))) }
+        → convert_outcome t.held input.now name ≡ Ok (record {
+          file = Some (record { name = name; bytes = output.bytes.items });
+          text = output.line.items;
+        }))) }
+    ensures converted { IfOk result (λ output. IfSome (S.told shelf.old) (λ t.
+        IsConvertedFrom t.held input.now output.bytes.items)) }
     ensures checked { IfErr result (λ ending. IfSome (S.told shelf.old) (λ t. (name : List ℕ)
         → IsChecked (result_err (convert_outcome t.held input.now name)) ending)) }
     ensures cause { IsCaused (S.misses shelf.old) (S.misses shelf.new) (S.faults shelf.old)
         (S.faults shelf.new) 0 0 result }
     ensures spelled { IfErr result IsNotUsage }
 {
-    match read_input(alloc, input, shelf) {
+    match open(alloc, input, shelf) {
         Err(ending) => Err(ending),
-        Ok(bytes) => convert_bytes(alloc, input, &bytes),
+        Ok(file) => match output_of(alloc, &file) {
+            Ok(output) => Ok(output),
+            Err(_) => Err(Ending::NoMemory),
+        },
     }
 }
 
@@ -86,12 +79,16 @@ pub fn convert<S: Shelf, O: Sink>(
     ensures checked { IfErr result (λ ending. IfSome (S.told shelf.old) (λ t.
         IsChecked (result_err (convert_outcome t.held input.now name.now)) ending)) }
 
+    // What is committed reads back.
+    ensures commits { OnOk result (IfSome (S.told shelf.old) (λ t.
+        IsCommitted t.held (held_of (S.told shelf.new)) input.now name.now)) }
+
     // What an ending leaves, and which part of the line is put.
     ensures left { IfErr result (λ ending. IfSome (S.told shelf.old) (λ t.
         IsLeft (convert_outcome t.held input.now name.now) t.held (held_of (S.told shelf.new))
         ending)) }
     ensures part { OnErr result (IfSome (S.told shelf.old) (λ t.
-        GrowsByPrefix (O.written out.old) (own_line (convert_outcome t.held input.now name.now))
+        GrowsByPrefix (O.written out.old) (own_text (convert_outcome t.held input.now name.now))
         (O.written out.new))) }
     ensures cause { IsCaused (S.misses shelf.old) (S.misses shelf.new) (S.faults shelf.old)
         (S.faults shelf.new) (O.faults out.old) (O.faults out.new) result }

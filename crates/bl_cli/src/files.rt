@@ -5,7 +5,7 @@ ghost use Rattle.bl_shelf.specs.Told.{bytes_under, held_of, with_file};
 ghost use Rattle.bl_shelf.specs.Written.{Grows, GrowsByPrefix};
 ghost use Rattle.bl_format.specs.Limits.{most_input_bytes};
 ghost use Rattle.bl_commands.specs.Checks.{first_ending};
-ghost use Rattle.bl_cli.specs.Convert.{opening_checks};
+ghost use Rattle.bl_cli.specs.Opening.{opening_checks};
 ghost use Rattle.bl_cli.specs.Run.{IsCaused, IsChecked, ComesFromOutside, IsReadingEnding, IsNotUsage, IsUnstored, storing_ending};
 
 use bl_commands::{Ending, Quantity};

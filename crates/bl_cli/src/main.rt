@@ -3,9 +3,13 @@
 
 mod commands;
 mod convert;
+mod faults;
 mod files;
-mod raw_file;
+mod names;
+mod opened;
+mod printing;
 mod raw_output;
+mod schema;
 
 use bl_lines::{Ending, status_of};
 use bl_shelf::{FolderShelf, StdoutSink};

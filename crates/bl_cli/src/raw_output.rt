@@ -1,15 +1,18 @@
 // Writes a file of raw blocks.
-ghost use Rattle.std.specs.Prelude.{◌≡◌, ◌≤◌, ◌<◌, ◌+◌, ◌*◌, ◌^◌, ◌++◌, length, All, OnOk, IfOk};
+ghost use Rattle.std.specs.Prelude.{◌≡◌, ◌≤◌, ◌<◌, ◌+◌, ◌^◌, ◌++◌, length, All, OnOk, IfOk};
 ghost use Rattle.bl_num.specs.Numbers.{pointer_bytes};
 ghost use Rattle.bl_format.specs.Limits.{most_blocks};
-ghost use Rattle.bl_format.specs.Blocks.{head_size};
-ghost use Rattle.bl_format.specs.Nodes.{payload, catalogues_in, nodes_in};
-ghost use Rattle.bl_cli.specs.RawOutput.{CanBeCopied, block_copied, catalogue_blocks, catalogue_head, end_written, node_blocks, node_head, raw_output};
-ghost use Rattle.bl_cli.specs.Convert.{IsRawFile};
+ghost use Rattle.bl_format.specs.Blocks.{head_written, code_meant};
+ghost use Rattle.bl_format.specs.Schema.{CanBeRead, catalogue_written};
+ghost use Rattle.bl_cli.specs.RawOutput.{CanBeCopied, catalogue_block, end_written, node_block, node_blocks, raw_output};
+ghost use Rattle.bl_cli.specs.Opening.{IsOpened, file_in};
 
-use crate::raw_file::{RawFile, is_catalogue};
+use crate::opened::{Opened, payload};
 use bl_blocks::{Head, head_size, write_head};
+use bl_format::Catalogue;
 use bl_header::{Header, write_header};
+use bl_num::NoMemory;
+use bl_sdna::write_catalogue;
 use std::alloc::{AllocError, Global};
 
 // The bytes of the longest head.
@@ -18,38 +21,19 @@ const LONGEST_HEAD: usize = 24;
 // Node k, from 0, has address 16 * (k + 1).
 const ADDRESS_STEP: u64 = 16;
 
-// The bytes behind a head.
-fn payload<'a>(header: &Header, bytes: &'a [u8], head: &Head) -> &'a [u8]
-    requires { head.now.at + head_size header.now + head.now.len ≤ length bytes.now }
-    ensures { result.now ≡ payload header.now bytes.now head.now }
-{
-    let from = head.at as usize + head_size(header);
-    &bytes[from..][..head.len as usize]
-}
-
-// Adds a head, and the payload that was read behind another.
-fn add_block(
-    header: &Header,
-    bytes: &[u8],
-    head: &Head,
-    from: &Head,
-    out: &mut Vec<u8>,
-) -> Result<(), AllocError>
-    requires can { CanBeCopied header.now bytes.now from.now }
-    requires code { head.now.code ≡ from.now.code }
-    requires len { head.now.len ≡ from.now.len }
+// Adds a head.
+fn add_head(header: &Header, head: &Head, out: &mut Vec<u8>) -> Result<(), AllocError>
+    requires code { code_meant head.now.code ≡ head.now.code }
+    requires len { head.now.len < 2 ^ 31 }
     requires address { head.now.address < 256 ^ pointer_bytes header.now.width }
     requires index { head.now.index < 2 ^ 31 }
     requires count { head.now.count < 2 ^ 31 }
-    ensures { OnOk result (out.new.items
-        ≡ out.old.items ++ block_copied header.now bytes.now head.now from.now) }
+    ensures { OnOk result (out.new.items ≡ out.old.items ++ head_written header.now head.now) }
 {
     let mut buffer = [0; LONGEST_HEAD];
     let spelled = &mut buffer[..head_size(header)];
     write_head(header, head, spelled);
-    out.extend_from_slice(spelled)?;
-    out.extend_from_slice(payload(header, bytes, from))?;
-    Ok(())
+    out.extend_from_slice(spelled)
 }
 
 // Adds node k, from 0.
@@ -63,7 +47,7 @@ fn add_node(
     requires can { CanBeCopied header.now bytes.now node.now }
     requires few { k < most_blocks }
     ensures { OnOk result (out.new.items
-        ≡ out.old.items ++ block_copied header.now bytes.now (node_head k node.now) node.now) }
+        ≡ out.old.items ++ node_block header.now bytes.now k node.now) }
 {
     let head = Head {
         address: ADDRESS_STEP * (k + 1),
@@ -71,54 +55,51 @@ fn add_node(
         at: 0,
         ..*node
     };
-    add_block(header, bytes, &head, node, out)
+    add_head(header, &head, out)?;
+    out.extend_from_slice(payload(header, bytes, node))
 }
 
-// Adds the blocks but the catalogue's.
+// Adds the nodes in order.
 fn add_nodes(
     header: &Header,
     bytes: &[u8],
-    blocks: &[Head],
+    nodes: &[Head],
     out: &mut Vec<u8>,
 ) -> Result<(), AllocError>
-    requires can { All (CanBeCopied header.now bytes.now) blocks.now }
-    requires few { length blocks.now ≤ most_blocks }
+    requires can { All (CanBeCopied header.now bytes.now) nodes.now }
+    requires few { length nodes.now ≤ most_blocks }
     ensures { OnOk result (out.new.items
-        ≡ out.old.items ++ node_blocks header.now bytes.now 0 (nodes_in blocks.now)) }
+        ≡ out.old.items ++ node_blocks header.now bytes.now 0 nodes.now) }
 {
-    let mut number = 0;
-    for block in blocks {
-        if !is_catalogue(block) {
-            add_node(header, bytes, number, block, out)?;
-            number += 1;
-        }
+    for (k, node) in nodes.iter().enumerate() {
+        add_node(header, bytes, k as u64, node, out)?;
     }
     Ok(())
 }
 
 // Adds the catalogue's block.
+#[tactic(auto, unfolding(crate::specs::RawOutput::catalogue_block))]
 fn add_catalogue(
+    alloc: Global,
     header: &Header,
-    bytes: &[u8],
-    blocks: &[Head],
+    catalogue: &Catalogue,
     out: &mut Vec<u8>,
-) -> Result<(), AllocError>
-    requires { All (CanBeCopied header.now bytes.now) blocks.now }
-    ensures { OnOk result (out.new.items
-        ≡ out.old.items ++ catalogue_blocks header.now bytes.now (catalogues_in blocks.now)) }
+) -> Result<(), NoMemory>
+    requires can { CanBeRead catalogue.now }
+    requires short { length (catalogue_written header.now.order catalogue.now) < 2 ^ 31 }
+    ensures { OnOk result (out.new.items ≡ out.old.items ++ catalogue_block header.now catalogue.now) }
 {
-    for block in blocks {
-        if is_catalogue(block) {
-            let head = Head {
-                address: 0,
-                index: 0,
-                count: 1,
-                at: 0,
-                ..*block
-            };
-            add_block(header, bytes, &head, block, out)?;
-        }
-    }
+    let written = write_catalogue(alloc, header.order, catalogue)?;
+    let head = Head {
+        code: *b"DNA1",
+        len: written.len() as u64,
+        address: 0,
+        index: 0,
+        count: 1,
+        at: 0,
+    };
+    add_head(header, &head, out)?;
+    out.extend_from_slice(&written)?;
     Ok(())
 }
 
@@ -132,14 +113,19 @@ fn add_end(header: &Header, out: &mut Vec<u8>) -> Result<(), AllocError>
 
 /// What becomes of a file of raw blocks: its nodes with new addresses, then the catalogue, and the
 /// end.
-pub fn raw_output(alloc: Global, bytes: &[u8], file: &RawFile) -> Result<Vec<u8>, AllocError>
-    requires { IsRawFile bytes.now file.now }
-    ensures { IfOk result (λ output. output.items ≡ raw_output bytes.now file.now) }
+pub fn raw_output(alloc: Global, file: &Opened) -> Result<Vec<u8>, NoMemory>
+    requires { IsOpened file.now }
+    ensures { IfOk result (λ output. output.items ≡ raw_output (file_in file.now.bytes.items)) }
 {
-    let mut output = Vec::with_capacity(alloc, bytes.len() + LONGEST_HEAD)?;
+    let mut output = Vec::with_capacity(alloc, file.bytes.len() + LONGEST_HEAD)?;
     output.extend_from_slice(&write_header(&file.header))?;
-    add_nodes(&file.header, bytes, file.blocks.as_slice(), &mut output)?;
-    add_catalogue(&file.header, bytes, file.blocks.as_slice(), &mut output)?;
+    add_nodes(
+        &file.header,
+        &file.bytes,
+        file.nodes.as_slice(),
+        &mut output,
+    )?;
+    add_catalogue(alloc, &file.header, file.layout.catalogue(), &mut output)?;
     add_end(&file.header, &mut output)?;
     Ok(output)
 }

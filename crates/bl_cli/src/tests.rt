@@ -30,34 +30,78 @@ fn shelf_of(
     Ok(shelf)
 }
 
+// The smallest catalogue has no names, types and structs.
 const SMALL: &[u8] = b"BLENDER-v405\
     DATA\x04\0\0\0\0\x10\0\0\0\0\0\0\0\0\0\0\x01\0\0\0\x01\x02\x03\x04\
-    DNA1\x08\0\0\0\x05\0\0\0\0\0\0\0\0\0\0\0\x07\0\0\0SDNANAME\
+    DNA1\x20\0\0\0\x05\0\0\0\0\0\0\0\0\0\0\0\x07\0\0\0\
+    SDNANAME\0\0\0\0TYPE\0\0\0\0TLENSTRC\0\0\0\0\
     ENDB";
 
 const SMALL_CONVERTED: &[u8] = b"BLENDER-v405\
     DATA\x04\0\0\0\x10\0\0\0\0\0\0\0\0\0\0\0\x01\0\0\0\x01\x02\x03\x04\
-    DNA1\x08\0\0\0\0\0\0\0\0\0\0\0\0\0\0\0\x01\0\0\0SDNANAME\
+    DNA1\x20\0\0\0\0\0\0\0\0\0\0\0\0\0\0\0\x01\0\0\0\
+    SDNANAME\0\0\0\0TYPE\0\0\0\0TLENSTRC\0\0\0\0\
     ENDB\0\0\0\0\0\0\0\0\0\0\0\0\0\0\0\0\0\0\0\0";
 
-// Pointers of 4 bytes, the highest byte first; the catalogue in front, and bytes behind the end; a
-// code of two letters that is written with its zeros first.
+// Pointers of 4 bytes, the highest byte first; the catalogue in front, with a byte behind its
+// structs, and bytes behind the end; a code of two letters that is written with its zeros first.
 const NARROW: &[u8] = b"BLENDER_V279\
-    DNA1\0\0\0\x01\0\0\0\0\0\0\0\0\0\0\0\x01S\
+    DNA1\0\0\0\x21\0\0\0\0\0\0\0\0\0\0\0\x01\
+    SDNANAME\0\0\0\0TYPE\0\0\0\0TLENSTRC\0\0\0\0x\
     OB\0\0\0\0\0\x02\0\0\x12\x34\0\0\0\0\0\0\0\x03xy\
     ENDB and more";
 
 const NARROW_CONVERTED: &[u8] = b"BLENDER_V279\
     \0\0OB\0\0\0\x02\0\0\0\x10\0\0\0\0\0\0\0\x03xy\
-    DNA1\0\0\0\x01\0\0\0\0\0\0\0\0\0\0\0\x01S\
+    DNA1\0\0\0\x20\0\0\0\0\0\0\0\0\0\0\0\x01\
+    SDNANAME\0\0\0\0TYPE\0\0\0\0TLENSTRC\0\0\0\0\
     ENDB\0\0\0\0\0\0\0\0\0\0\0\0\0\0\0\0";
+
+// The small catalogue of the worked examples and no other block.
+const ALONE: [u8; 452] =
+    *b"BLENDER-v405DNA1\x88\x01\0\0\0\0\0\0\0\0\0\0\0\0\0\0\x01\0\0\0SDNANAME\x14\0\0\0*next\
+    \0*prev\0*newid\0*lib\0name[66]\0flag\0us\0id\0name[1024]\0*parent\0*data\0loc[3]\0typ\
+    e\0_pad[2]\0*index\0*co\0**users\0*extra\0totindex\0totco\0\0\0TYPE\x0e\0\0\0char\0uch\
+    ar\0short\0ushort\0int\0int64_t\0float\0double\0void\0Link\0ID\0Library\0Object\0Mesh\
+    \0\0\0TLEN\x01\0\x01\0\x02\0\x02\0\x04\0\x08\0\x04\0\x08\0\0\0\x10\0h\0h\x04\x88\0\x90\
+    \0STRC\x05\0\0\0\x09\0\x02\0\x09\0\0\0\x09\0\x01\0\n\0\x07\0\x08\0\0\0\x08\0\x01\0\n\0\
+    \x02\0\x0b\0\x03\0\0\0\x04\0\x02\0\x05\0\x04\0\x06\0\x0b\0\x02\0\n\0\x07\0\0\0\x08\0\
+    \x0c\0\x06\0\n\0\x07\0\x0c\0\x09\0\x0d\0\n\0\x06\0\x0b\0\x02\0\x0c\0\0\0\x0d\0\x0d\0\
+    \x07\0\n\0\x07\0\x04\0\x0e\0\x06\0\x0f\0\x0c\0\x10\0\x08\0\x11\0\x04\0\x12\0\x04\0\x13\
+    \0ENDB\0\0\0\0\0\0\0\0\0\0\0\0\0\0\0\0\0\0\0\0";
+
+// The same with one type more, so that padding stands between lengths and structs.
+const ODD: &[u8] =
+    b"BLENDER-v405DNA1\x94\x01\0\0\0\0\0\0\0\0\0\0\0\0\0\0\x01\0\0\0SDNANAME\x14\0\0\0*next\
+    \0*prev\0*newid\0*lib\0name[66]\0flag\0us\0id\0name[1024]\0*parent\0*data\0loc[3]\0typ\
+    e\0_pad[2]\0*index\0*co\0**users\0*extra\0totindex\0totco\0\0\0TYPE\x0f\0\0\0char\0uch\
+    ar\0short\0ushort\0int\0int64_t\0float\0double\0void\0Link\0ID\0Library\0Object\0Mesh\
+    \0raw_data\0\0TLEN\x01\0\x01\0\x02\0\x02\0\x04\0\x08\0\x04\0\x08\0\0\0\x10\0h\0h\x04\
+    \x88\0\x90\0\0\0\0\0STRC\x05\0\0\0\x09\0\x02\0\x09\0\0\0\x09\0\x01\0\n\0\x07\0\x08\0\0\
+    \0\x08\0\x01\0\n\0\x02\0\x0b\0\x03\0\0\0\x04\0\x02\0\x05\0\x04\0\x06\0\x0b\0\x02\0\n\0\
+    \x07\0\0\0\x08\0\x0c\0\x06\0\n\0\x07\0\x0c\0\x09\0\x0d\0\n\0\x06\0\x0b\0\x02\0\x0c\0\0\
+    \0\x0d\0\x0d\0\x07\0\n\0\x07\0\x04\0\x0e\0\x06\0\x0f\0\x0c\0\x10\0\x08\0\x11\0\x04\0\
+    \x12\0\x04\0\x13\0ENDB\0\0\0\0\0\0\0\0\0\0\0\0\0\0\0\0\0\0\0\0";
+
+// What is printed of it.
+const ALONE_PRINTED: &str =
+    "version 405 width 8 order little names 20 types 14 structs 5\nstruct 0 Link 16\n  0 8 \
+    Link *next\n  8 8 Link *prev\nstruct 1 ID 104\n  0 8 void *next\n  8 8 void *prev\n  1\
+    6 8 ID *newid\n  24 8 Library *lib\n  32 66 char name[66]\n  98 2 short flag\n  100 4 \
+    int us\nstruct 2 Library 1128\n  0 104 ID id\n  104 1024 char name[1024]\nstruct 3 Obj\
+    ect 136\n  0 104 ID id\n  104 8 Object *parent\n  112 8 Mesh *data\n  120 12 float loc\
+    [3]\n  132 2 short type\n  134 2 char _pad[2]\nstruct 4 Mesh 144\n  0 104 ID id\n  104 \
+    8 int *index\n  112 8 float *co\n  120 8 Object **users\n  128 8 void *extra\n  136 4 \
+    int totindex\n  140 4 int totco\n";
 
 #[test]
 fn converts(rt: HostRuntime) -> Result<(), Fail> {
     let alloc = rt.alloc();
     for (file, line, converted) in [
-        (SMALL, "blocks 1 bytes 96\n", SMALL_CONVERTED),
-        (NARROW, "blocks 1 bytes 75\n", NARROW_CONVERTED),
+        (SMALL, "blocks 1 bytes 120\n", SMALL_CONVERTED),
+        (NARROW, "blocks 1 bytes 106\n", NARROW_CONVERTED),
+        (&ALONE[..432], "blocks 0 bytes 452\n", &ALONE),
+        (ODD, "blocks 0 bytes 464\n", ODD),
     ] {
         let mut shelf = shelf_of(alloc, file, Vec::new(alloc), false)?;
         let mut sink = MemorySink::new(alloc, Vec::new(alloc));
@@ -74,6 +118,55 @@ fn converts(rt: HostRuntime) -> Result<(), Fail> {
     let words = words(alloc, &["convert", "a", "a"])?;
     assert_eq!(rt; run(alloc, &words, &mut shelf, &mut sink), 0);
     assert_eq!(rt; shelf.bytes_of("a").ok_or("absent")?, SMALL_CONVERTED);
+    Ok(())
+}
+
+#[test]
+fn prints(rt: HostRuntime) -> Result<(), Fail> {
+    let alloc = rt.alloc();
+    let words = words(alloc, &["schema", "a"])?;
+    let mut shelf = shelf_of(alloc, &ALONE, Vec::new(alloc), false)?;
+    let mut sink = MemorySink::new(alloc, Vec::new(alloc));
+    assert_eq!(rt; run(alloc, &words, &mut shelf, &mut sink), 0);
+    assert_eq!(rt; sink.bytes(), ALONE_PRINTED.as_bytes());
+    assert_eq!(rt; shelf.bytes_of("a").ok_or("absent")?, ALONE.as_slice());
+    Ok(())
+}
+
+// Places in the file of a tag, of the lengths of two types, and of numbers of a type and of names.
+const TAG: usize = 39;
+
+const INT_LENGTH: usize = 284;
+
+const OBJECT_LENGTH: usize = 300;
+
+const OBJECT_TYPE_NAME: usize = 390;
+
+const MESH_ID_TYPE: usize = 400;
+
+const LAST_NAME: usize = 426;
+
+#[test]
+fn refuses_catalogues(rt: HostRuntime) -> Result<(), Fail> {
+    let alloc = rt.alloc();
+    for (at, byte, line) in [
+        (TAG, b'B', "BadTag 0"),
+        (LAST_NAME, 20, "BadIndex 390"),
+        (OBJECT_LENGTH, 135, "Overrun Object _pad[2]"),
+        (MESH_ID_TYPE, 13, "Cyclic Mesh id"),
+        (INT_LENGTH, 8, "BasicLength ID us"),
+        (OBJECT_TYPE_NAME, 7, "DuplicateMember Object id"),
+    ] {
+        let mut file = ALONE;
+        assert!(rt; at < file.len());
+        file[at] = byte;
+        let mut shelf = shelf_of(alloc, &file, Vec::new(alloc), false)?;
+        let mut sink = MemorySink::new(alloc, Vec::new(alloc));
+        let words = words(alloc, &["schema", "a"])?;
+        assert_eq!(rt; run(alloc, &words, &mut shelf, &mut sink), 6, "{line}");
+        let whole = format!(in alloc; "bad file a: {line}\n")?;
+        assert_eq!(rt; sink.bytes(), whole.as_bytes());
+    }
     Ok(())
 }
 
@@ -114,7 +207,14 @@ fn refuses(rt: HostRuntime) -> Result<(), Fail> {
             "TwoCatalogues 32",
         ),
         (
-            b"BLENDER_v405OB\0\0\0\0\0\0\0\0\0\0\x03\0\0\0\0\0\0\0DNA1\0\0\0\0\0\0\0\0\0\0\0\0\0\0\0\0ENDB",
+            b"BLENDER_v405DNA1\x03\0\0\0\0\0\0\0\0\0\0\0\0\0\0\0SDNENDB",
+            "CutShort 0",
+        ),
+        (
+            b"BLENDER_v405OB\0\0\0\0\0\0\0\0\0\0\x03\0\0\0\0\0\0\0\
+                DNA1\x20\0\0\0\0\0\0\0\0\0\0\0\0\0\0\0\
+                SDNANAME\0\0\0\0TYPE\0\0\0\0TLENSTRC\0\0\0\0\
+                ENDB",
             "NotBuilt",
         ),
     ] {
@@ -168,7 +268,7 @@ fn leaves_what_was_held_where_a_device_fails(rt: HostRuntime) -> Result<(), Fail
     let all = words(alloc, &["convert", "a", "b"])?;
     assert_eq!(rt; run(alloc, &all, &mut shelf, &mut sink), 5);
     assert_eq!(rt; shelf.bytes_of("b").ok_or("absent")?, SMALL_CONVERTED);
-    assert_eq!(rt; sink.bytes(), b"blocks 1 bytes 96\ndevice\n".as_slice());
+    assert_eq!(rt; sink.bytes(), b"blocks 1 bytes 120\ndevice\n".as_slice());
 
     // The status stays where the line of what ended the run can't be put.
     let mut shelf = shelf_of(alloc, SMALL, Vec::new(alloc), false)?;

@@ -203,7 +203,10 @@ forms =
 
 -- the commands and options that this program has today; the others spell no command
 abbrev pub built_forms : List Form
-built_forms = record { name = codes "convert"; reads = convert_words [] } ∷ []
+built_forms =
+    record { name = codes "convert"; reads = convert_words [] }
+    ∷ record { name = codes "schema"; reads = one_file Schema }
+    ∷ []
 
 -- the command that words spell by a table of commands, or none
 abbrev pub command_by : List Form → List Word → Option Command

@@ -3,7 +3,8 @@
 
 ghost use Rattle.std.specs.Prelude.{◌≡◌, [], ◌∷◌, map, IfOk};
 ghost use Rattle.std.specs.String.{string_bytes};
-ghost use Rattle.bl_commands.specs.Commands.{is_file_word, convert_words, command_of};
+ghost use Rattle.bl_commands.specs.Commands.{is_file_word, convert_words, one_file, command_of};
+ghost use Rattle.bl_commands.specs.declared.command.Command.TheVariants.{Schema};
 
 pub use bl_commands::{Command, ConvertOptions, Word};
 use bl_num::NoMemory;
@@ -31,6 +32,7 @@ pub fn command_of(alloc: Global, words: &[String]) -> Result<Option<Command>, No
 {
     match words.split_first() {
         Some((name, rest)) if name.as_str() == "convert" => convert_of(alloc, rest),
+        Some((name, rest)) if name.as_str() == "schema" => schema_of(alloc, rest),
         _ => Ok(None),
     }
 }
@@ -51,6 +53,18 @@ fn convert_of(alloc: Global, words: &[String]) -> Result<Option<Command>, NoMemo
                 },
             }))
         }
+        _ => Ok(None),
+    }
+}
+
+// What the words behind `schema` spell: the name of the input.
+fn schema_of(alloc: Global, words: &[String]) -> Result<Option<Command>, NoMemory>
+    ensures { IfOk result (λ command. command ≡ one_file Schema (map string_bytes words.now)) }
+{
+    match words {
+        [input] if is_file_word(input.as_str()) => Ok(Some(Command::Schema {
+            input: Word::from_str(alloc, input.as_str())?,
+        })),
         _ => Ok(None),
     }
 }

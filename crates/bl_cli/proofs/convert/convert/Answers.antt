@@ -1,4 +1,4 @@
-use Rattle.bl_cli.proofs.Converts.{at_name}
+use Rattle.bl_cli.proofs.Outcomes.{at_name}
 use Rattle.bl_cli.proofs.convert.convert.Goals as goal
 
 pub returns-in-Err-clause-checked : goal.returns-in-Err-clause-checked
