@@ -15,7 +15,7 @@ use Rattle.bl_format.proofs.HeaderBack.{length-header_written}
 use Rattle.bl_format.proofs.FileBack.{length-spelling}
 use Rattle.bl_format.proofs.CatalogueBack.{catalogue_of-catalogue_written}
 use Rattle.bl_cli.specs.RawOutput.{node_head, node_block, node_blocks, catalogue_head, catalogue_block, end_written, raw_output, node_heads, placed_from, output_file, CanBeCopied}
-use Rattle.bl_cli.specs.Conversion.{IsRawFile}
+use Rattle.bl_cli.specs.Accomplished.{IsRawFile}
 use Rattle.bl_cli.proofs.ReadsBack.{catalogue_bytes, last_head, output_blocks, spells_node, spells_catalogue}
 
 -- ---- raw blocks

@@ -25,7 +25,7 @@ use Rattle.bl_commands.specs.Checks.{first_ending, ending_if}
 use Rattle.bl_cli.specs.declared.opened.Opened.{Opened}
 use Rattle.bl_cli.specs.RawOutput.{raw_output, CanBeCopied}
 use Rattle.bl_cli.specs.Opening.{no_header, no_catalogue, header_in, blocks_in, first_payload, catalogue_payload, catalogue_read, catalogue_in, file_in, catalogue_fault, layout_refusal, has_struct_node, format_checks, ReadsWhole, IsOpened}
-use Rattle.bl_cli.specs.Conversion.{IsRawFile, IsConversion}
+use Rattle.bl_cli.specs.Accomplished.{IsRawFile, IsConversion}
 use Rattle.bl_cli.proofs.Outputs.{all_copied}
 use Rattle.bl_cli.proofs.ReadsBack.{catalogue_bytes, output_reads}
 use Rattle.bl_cli.proofs.AcceptedBack.{IsRaw, IsNode, raw_faultless, accepted_again}
@@ -64,7 +64,7 @@ one_more true x xs found rest = rw found (omega (arith, rest))
 one_more false x xs node rest = rw node (omega (arith, rest))
 
 -- each block is a node or holds a catalogue
-all_blocks_counted : (xs : List Head) → length (nodes_in xs) + length (catalogues_in xs) ≡ length xs
+pub all_blocks_counted : (xs : List Head) → length (nodes_in xs) + length (catalogues_in xs) ≡ length xs
 all_blocks_counted [] = refl
 all_blocks_counted (x ∷ xs) = one_more (is_catalogue x) x xs refl (all_blocks_counted xs)
 

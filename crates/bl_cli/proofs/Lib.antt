@@ -6,5 +6,6 @@ pub mod Outcomes
 pub mod Gathers
 pub mod Conversions
 pub mod Refusals
+pub mod Acceptance
 pub mod Runs
 pub mod Built

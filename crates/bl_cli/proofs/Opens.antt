@@ -101,7 +101,7 @@ opening_ends : (held : Held) (input : List ℕ) (e : Ending) → first_ending (o
 opening_ends held input e is = rw (first_ending-append (opening_checks input (get held input)) (format_checks input (unwrap_or (get held input) [])), is) refl
 
 -- where the file is held and not too long, the checks of its bytes decide
-opened : (held : Held) (input b : List ℕ) → get held input ≡ Some b → length b ≤ most_input_bytes → first_ending (input_checks held input) ≡ first_ending (format_checks input b)
+pub opened : (held : Held) (input b : List ℕ) → get held input ≡ Some b → length b ≤ most_input_bytes → first_ending (input_checks held input) ≡ first_ending (format_checks input b)
 opened held input b is small = rw (is, le-ltb most_input_bytes (length b) small) refl
 
 -- ---- the same of a shelf that may tell

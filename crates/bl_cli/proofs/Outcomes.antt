@@ -17,7 +17,7 @@ use Rattle.bl_cli.specs.declared.convert.Output.{Output}
 use Rattle.bl_cli.specs.declared.opened.Opened.{Opened}
 use Rattle.bl_cli.specs.Opening.{header_in, catalogue_in, file_in, bytes_held, input_checks, IsOpened}
 use Rattle.bl_cli.specs.Outcome.{Effect, unless_ending, convert_effect, convert_outcome, schema_effect, schema_outcome}
-use Rattle.bl_cli.specs.Conversion.{IsConvertedFrom, IsCommitted, IsPrinted}
+use Rattle.bl_cli.specs.Accomplished.{IsConvertedFrom, IsCommitted, IsPrinted}
 use Rattle.bl_cli.specs.Prepared.{IsOutputOf}
 use Rattle.bl_cli.specs.Run.{IsChecked, IsDone, own_text}
 use Rattle.bl_cli.proofs.Conversions.{accepted_whole}

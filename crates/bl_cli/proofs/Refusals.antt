@@ -27,7 +27,7 @@ use Rattle.bl_shelf.specs.Told.{Held, Told}
 use Rattle.bl_cli.specs.Opening.{no_header, no_catalogue, header_in, blocks_in, first_payload, catalogue_read, catalogue_in, catalogue_fault, layout_refusal, has_struct_node, format_checks, bytes_held, input_checks}
 use Rattle.bl_cli.specs.Outcome.{Effect, unless_ending, convert_effect, convert_outcome, schema_effect, schema_outcome, command_outcome}
 use Rattle.bl_cli.specs.Refusal.{HasFaultFor, IsHeldWithFault, HasInputCause, HasCauseIn}
-use Rattle.bl_cli.specs.Refusal.InputFault.{TooLong, InHeader, InBlocks, NoCatalogue, TwoCatalogues, InCatalogue, InLayout, NotRaw}
+use Rattle.bl_cli.specs.Refusal.InputFault.{TooLarge, InHeader, InBlocks, NoCatalogue, TwoCatalogues, InCatalogue, InLayout, NotRaw}
 use Rattle.bl_cli.proofs.AcceptedBack.{IsRaw}
 use Rattle.bl_cli.proofs.Conversions.{no_fault, value_of, bytes_of_held, fails_not, one_catalogue, reads_catalogue}
 
@@ -55,7 +55,7 @@ none_held (Some b) is = cc
 
 -- ---- nodes that aren't raw
 
-no_struct : (xs : List Head) → All IsRaw xs → has_struct_node xs ≡ false
+pub no_struct : (xs : List Head) → All IsRaw xs → has_struct_node xs ≡ false
 no_struct [] all = refl
 no_struct (x ∷ xs) all =
     let zero : (x.index == 0) ≡ true = eq-eqb x.index 0 (All-head IsRaw x xs all) in
@@ -163,7 +163,7 @@ module _ (held : Held) (input : List ℕ) (e : Ending) where
   by_length : get held input ≡ Some (bytes_held held input) → (length_check ≡ Some e) ⊎ ((length_check ≡ None) × (first_ending (format_checks input (bytes_held held input)) ≡ Some e)) → IsHeldWithFault held input e
   by_length is_held (inl is) =
       let found = gives (nat_lt most_input_bytes (length (bytes_held held input))) _ e is in
-      record { b = bytes_held held input; is_held = is_held; refused = record { fault = TooLong; has = ltb-true most_input_bytes (length (bytes_held held input)) found.0; gives = found.1 } }
+      record { b = bytes_held held input; is_held = is_held; refused = record { fault = TooLarge; has = ltb-true most_input_bytes (length (bytes_held held input)) found.0; gives = found.1 } }
   by_length is_held (inr rest) = record { b = bytes_held held input; is_held = is_held; refused = format_refused input (bytes_held held input) e rest.1 }
 
   by_absence : (absent_check ≡ Some e) ⊎ ((absent_check ≡ None) × (first_ending (length_check ∷ format_checks input (bytes_held held input)) ≡ Some e)) → HasInputCause held input e

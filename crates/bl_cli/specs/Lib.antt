@@ -3,6 +3,6 @@ pub mod Opening
 pub mod Outcome
 pub mod Run
 pub mod Refusal
-pub mod Conversion
+pub mod Accomplished
 pub mod Prepared
 pub mod Printing

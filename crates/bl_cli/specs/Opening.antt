@@ -88,31 +88,41 @@ pub record IsOpened (f : Opened) : Type 0 where
 
 -- ---- the checks
 
--- what is wrong with the catalogues behind a first one: there is none
+-- what is wrong where another catalogue follows the first
 abbrev pub second_fault : List Head → Option FileFault
 second_fault [] = None
 second_fault (x ∷ xs) = Some (TwoCatalogues x.at)
 
--- what is wrong with a file's catalogues: there is one
+-- what is wrong unless a file has exactly one catalogue
 abbrev pub catalogue_fault : List Head → Option FileFault
 catalogue_fault [] = Some NoCatalogue
 catalogue_fault (x ∷ xs) = second_fault xs
 
--- the numbers of the struct and the member where a fault of a layout stands; one of the whole layout stands
--- nowhere
-abbrev pub place_of_fault : LayoutFault → ℕ × ℕ
-place_of_fault (BadName s k) = (s, k)
-place_of_fault (BasicLength s k) = (s, k)
-place_of_fault (Overrun s k) = (s, k)
-place_of_fault (Cyclic s k) = (s, k)
-place_of_fault (DuplicateMember s k) = (s, k)
-place_of_fault _ = (0, 0)
+-- the numbers of the struct and the member where a fault of a layout stands; one of the whole layout stands at
+-- none
+abbrev pub place_of_fault : LayoutFault → Option (ℕ × ℕ)
+place_of_fault (BadName s k) = Some (s, k)
+place_of_fault (BasicLength s k) = Some (s, k)
+place_of_fault (Overrun s k) = Some (s, k)
+place_of_fault (Cyclic s k) = Some (s, k)
+place_of_fault (DuplicateMember s k) = Some (s, k)
+place_of_fault _ = None
+
+-- the name of the struct at a place
+abbrev pub owner_at : Catalogue → Option (ℕ × ℕ) → List ℕ
+owner_at c None = []
+owner_at c (Some place) = struct_name c place.0
+
+-- the whole name of the member at a place
+abbrev pub member_at : Catalogue → Option (ℕ × ℕ) → List ℕ
+member_at c None = []
+member_at c (Some place) = whole_member_name c place.0 place.1
 
 -- how a catalogue without a layout ends a run, with the names of the struct and the member at fault
 unfoldable pub layout_refusal : List ℕ → Catalogue → LayoutFault → Ending
 layout_refusal file c fault =
     let place = place_of_fault fault in
-    layout_ending file (struct_name c place.0) (whole_member_name c place.0 place.1) fault
+    layout_ending file (owner_at c place) (member_at c place) fault
 
 -- a node has a struct
 abbrev pub has_struct_node : List Head → Bool

@@ -4,7 +4,7 @@ use Rattle.bl_cli.specs.declared.convert.Output.{Output}
 use Rattle.bl_cli.specs.RawOutput.{raw_output}
 use Rattle.bl_cli.specs.Opening.{file_in}
 use Rattle.bl_cli.specs.Outcome.{convert_line}
-use Rattle.bl_cli.specs.Conversion.{IsConversion}
+use Rattle.bl_cli.specs.Accomplished.{IsConversion}
 
 -- this becomes of the file of some bytes
 pub record IsOutputOf (b : List ℕ) (output : Output) : Type 0 where

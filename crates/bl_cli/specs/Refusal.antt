@@ -1,4 +1,5 @@
--- Why an input is refused, by what its bytes read as. The order of the faults is that of the checks.
+-- Why an input is refused, by what its bytes read as. Where bytes have several faults the checks of Opening decide
+-- which is told.
 use Rattle.std.specs.Prelude.{◌≡◌, ◌⊎◌, ◌<◌, ℕ, All, List, length, Option, Some, None}
 use Rattle.std.specs.FinMap.{get}
 use Rattle.bl_format.specs.declared.file.Header.{Header}
@@ -25,7 +26,7 @@ use Rattle.bl_cli.specs.Opening.{layout_refusal}
 
 -- what is wrong with an input
 pub data InputFault : Type 0 where
-  TooLong : InputFault
+  TooLarge : InputFault
   InHeader : (fault : HeadFault) → InputFault
   InBlocks : (fault : BlockFault) → InputFault
   NoCatalogue : InputFault
@@ -45,7 +46,7 @@ HasStructNode h blocks c =
 
 -- what a fault says of the bytes
 abbrev pub HasInputFault : List ℕ → InputFault → Type 0
-HasInputFault b TooLong = most_input_bytes < length b
+HasInputFault b TooLarge = most_input_bytes < length b
 HasInputFault b (InHeader fault) = IsRefused b (HeaderFault fault)
 HasInputFault b (InBlocks fault) = (h : Header) × HasBlockFault b h fault
 HasInputFault b NoCatalogue = IsRefused b CatalogueLack
@@ -56,7 +57,7 @@ HasInputFault b NotRaw = ReadsCatalogueAs b HasStructNode
 
 -- how it ends a run, by the file's shelf name and its bytes
 abbrev pub input_ending : List ℕ → List ℕ → InputFault → Ending
-input_ending file b TooLong = PastLimit InputBytes (length b)
+input_ending file b TooLarge = PastLimit InputBytes (length b)
 input_ending file b (InHeader fault) = head_ending file fault
 input_ending file b (InBlocks fault) = block_ending file fault
 input_ending file b NoCatalogue = BadFile file faults.NoCatalogue

@@ -5,14 +5,15 @@ ghost use Rattle.bl_commands.specs.Texts.{status_of};
 ghost use Rattle.bl_shelf.specs.Causes.{Rose};
 ghost use Rattle.bl_shelf.specs.Told.{held_of};
 ghost use Rattle.bl_shelf.specs.Written.{GrowsByPrefix};
-ghost use Rattle.bl_cli.specs.Conversion.{Accomplishes};
+ghost use Rattle.bl_cli.specs.Accomplished.{Accomplishes, CanBeDone};
 ghost use Rattle.bl_cli.specs.Outcome.{command_in, command_outcome, run_outcome};
 ghost use Rattle.bl_cli.specs.Refusal.{HasCauseIn};
 ghost use Rattle.bl_cli.specs.Run.{Concludes, IsBuilt, IsCaused, IsChecked, IsDone, IsOutsideStatus, IsLeft, IsNotUsage, IsUsageOrNoMemory, LeavesFiles, PutsLines, Reports, outcome_status, own_text};
 
 use crate::convert::convert;
 use crate::schema::schema;
-use bl_lines::{Ending, fault_line, status_of};
+use bl_commands::Ending;
+use bl_lines::{fault_line, status_of};
 use bl_shelf::{Shelf, Sink, SinkFault};
 use bl_words::{Command, command_of};
 use std::alloc::Global;
@@ -125,9 +126,10 @@ fn conclude<O: Sink>(alloc: Global, done: Result<(), Ending>, out: &mut O) -> u8
 /// device of the shelf failed; 6 where the input is refused; 9 where it passes a limit; 10 where
 /// the sink failed.
 ///
-/// The line of what is done is put before the output is committed. Every other run but one that
-/// ends with 10 puts a line of what ended it. The output may be held after 0, and after 3 and 5
-/// where the commit itself failed; after all others what is held is what was.
+/// The line of a conversion is put before the output is committed. Every run but one that ends with
+/// 0 or 10 puts a line of what ended it. After 0 the output of a conversion is held; after 3 and 5
+/// it may be, where the commit itself failed; after all others, and whatever is printed, what is
+/// held is what was.
 pub fn run<S: Shelf, O: Sink>(alloc: Global, words: &[String], shelf: &mut S, out: &mut O) -> u8
     requires { S.room shelf.old ≡ None }
     ensures statuses { (result ≡ 0) ⊎ ((2 ≤ result) × (result ≤ 10)) }
@@ -135,12 +137,15 @@ pub fn run<S: Shelf, O: Sink>(alloc: Global, words: &[String], shelf: &mut S, ou
 
     // The status is that of the first check of the command that gives an ending, and 0 where none
     // does, unless memory, a device or the sink ended the run. Such an ending has its cause in the
-    // files by what these read as, and where there is none, the run is done.
+    // files by what these read as. Where an input is accepted there is none, and then the run is
+    // done.
     ensures checked { IfSome (S.told shelf.old) (λ t.
         (result ≡ outcome_status (run_outcome t.held words.now))
         ⊎ IsOutsideStatus result) }
     ensures causes { IfSome (S.told shelf.old) (λ t.
         IfErr (run_outcome t.held words.now) (HasCauseIn (command_in words.now) t.held)) }
+    ensures able { IfSome (S.told shelf.old) (λ t.
+        CanBeDone (command_in words.now) t.held → IsOk (run_outcome t.held words.now)) }
     ensures complete { IfSome (S.told shelf.old) (λ t.
         IsOk (run_outcome t.held words.now)
         → ¬ Rose (S.faults shelf.old) (S.faults shelf.new)

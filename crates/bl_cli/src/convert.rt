@@ -5,14 +5,15 @@ ghost use Rattle.bl_shelf.specs.Told.{held_of};
 ghost use Rattle.bl_shelf.specs.Written.{GrowsByPrefix};
 ghost use Rattle.bl_cli.specs.Opening.{IsOpened};
 ghost use Rattle.bl_cli.specs.Outcome.{convert_outcome};
-ghost use Rattle.bl_cli.specs.Conversion.{IsCommitted, IsConvertedFrom};
+ghost use Rattle.bl_cli.specs.Accomplished.{IsCommitted, IsConvertedFrom};
 ghost use Rattle.bl_cli.specs.Prepared.{IsOutputOf};
 ghost use Rattle.bl_cli.specs.Run.{IsCaused, IsChecked, IsDone, IsLeft, IsNotUsage, own_text};
 
 use crate::files::store;
 use crate::opened::{Opened, open};
 use crate::raw_output::raw_output;
-use bl_lines::{Ending, summary_line};
+use bl_commands::Ending;
+use bl_lines::summary_line;
 use bl_num::NoMemory;
 use bl_shelf::{Shelf, Sink};
 use std::alloc::Global;

@@ -1,17 +1,16 @@
 // How a catalogue without a layout ends a run.
 ghost use Rattle.std.specs.Prelude.{◌≡◌, ◌⊎◌, IfOk};
-ghost use Rattle.bl_cli.specs.Opening.{layout_refusal, place_of_fault};
+ghost use Rattle.bl_cli.specs.Opening.{layout_refusal, member_at, owner_at, place_of_fault};
 
-use crate::files::text_of;
-use crate::names::{member_name, struct_name};
+use crate::catalogue_names::{member_name, struct_name};
+use crate::files::{owned_text, text_of};
 use bl_commands::Ending;
 use bl_format::{Catalogue, LayoutFault};
 use bl_lines::layout_ending;
-use bl_num::Text;
 use std::alloc::{AllocError, Global};
 
-// The numbers of the struct and the member where a fault stands.
-fn place_of_fault(fault: LayoutFault) -> (u32, u32)
+// The numbers of the struct and the member where a fault stands, if it stands at one.
+fn place_of_fault(fault: LayoutFault) -> Option<(u32, u32)>
     ensures { result ≡ place_of_fault fault }
 {
     match fault {
@@ -19,22 +18,36 @@ fn place_of_fault(fault: LayoutFault) -> (u32, u32)
         | LayoutFault::BasicLength { s, member }
         | LayoutFault::Overrun { s, member }
         | LayoutFault::Cyclic { s, member }
-        | LayoutFault::DuplicateMember { s, member } => (s, member),
+        | LayoutFault::DuplicateMember { s, member } => Some((s, member)),
         LayoutFault::TooDeep(_)
         | LayoutFault::TooManyLeaves(_)
         | LayoutFault::TooLong(_)
-        | LayoutFault::NoMemory => (0, 0),
+        | LayoutFault::NoMemory => None,
     }
 }
 
-fn owned(alloc: Global, name: &[u8]) -> Result<Text, AllocError>
-    ensures { IfOk result (λ text. text ≡ name.now) }
+// The name of the struct at a place.
+fn owner_at(catalogue: &Catalogue, place: Option<(u32, u32)>) -> &[u8]
+    ensures { result.now ≡ owner_at catalogue.now place }
 {
-    Ok(Text::from_vec(Vec::from_slice(alloc, name)?))
+    match place {
+        Some((s, _)) => struct_name(catalogue, s),
+        None => &[],
+    }
+}
+
+// The whole name of the member at a place.
+fn member_at(catalogue: &Catalogue, place: Option<(u32, u32)>) -> &[u8]
+    ensures { result.now ≡ member_at catalogue.now place }
+{
+    match place {
+        Some((s, member)) => member_name(catalogue, s, member),
+        None => &[],
+    }
 }
 
 #[tactic(auto, unfolding(crate::specs::Opening::layout_refusal))]
-fn refusal(
+fn named_refusal(
     alloc: Global,
     name: &str,
     catalogue: &Catalogue,
@@ -42,9 +55,9 @@ fn refusal(
 ) -> Result<Ending, AllocError>
     ensures { IfOk result (λ ending. ending ≡ layout_refusal name.now catalogue.now fault) }
 {
-    let (s, member) = place_of_fault(fault);
-    let owner = owned(alloc, struct_name(catalogue, s))?;
-    let member = owned(alloc, member_name(catalogue, s, member))?;
+    let place = place_of_fault(fault);
+    let owner = owned_text(alloc, owner_at(catalogue, place))?;
+    let member = owned_text(alloc, member_at(catalogue, place))?;
     Ok(layout_ending(text_of(alloc, name)?, owner, member, fault))
 }
 
@@ -58,7 +71,7 @@ pub fn layout_refusal(
 ) -> Ending
     ensures { (result ≡ layout_refusal name.now catalogue.now fault) ⊎ (result ≡ Ending.NoMemory) }
 {
-    match refusal(alloc, name, catalogue, fault) {
+    match named_refusal(alloc, name, catalogue, fault) {
         Ok(ending) => ending,
         Err(_) => Ending::NoMemory,
     }

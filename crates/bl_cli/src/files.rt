@@ -8,19 +8,27 @@ ghost use Rattle.bl_commands.specs.Checks.{first_ending};
 ghost use Rattle.bl_cli.specs.Opening.{opening_checks};
 ghost use Rattle.bl_cli.specs.Run.{IsCaused, IsChecked, ComesFromOutside, IsReadingEnding, IsNotUsage, IsUnstored, storing_ending};
 
+use crate::printing::put;
 use bl_commands::{Ending, Quantity};
 use bl_num::Text;
-use bl_shelf::{Shelf, ShelfFault, Sink, SinkFault};
+use bl_shelf::{Shelf, ShelfFault, Sink};
 use std::alloc::{AllocError, Global};
 
 // The most bytes of an input file.
 const MAX_INPUT_BYTES: u64 = 1 << 30;
 
+/// Bytes as an owned text.
+pub fn owned_text(alloc: Global, bytes: &[u8]) -> Result<Text, AllocError>
+    ensures { IfOk result (λ text. text ≡ bytes.now) }
+{
+    Ok(Text::from_vec(Vec::from_slice(alloc, bytes)?))
+}
+
 /// A name as an owned text.
 pub fn text_of(alloc: Global, name: &str) -> Result<Text, AllocError>
     ensures { IfOk result (λ text. text ≡ name.now) }
 {
-    Ok(Text::from_vec(Vec::from_slice(alloc, name.as_bytes())?))
+    owned_text(alloc, name.as_bytes())
 }
 
 // What a fault of a call that reads a file ends a run with.
@@ -108,15 +116,11 @@ pub fn store<S: Shelf, O: Sink>(
             return Err(storing_ending(fault));
         }
     }
-    match out.put(line) {
+    match put(line, out) {
         Ok(()) => {}
-        Err(SinkFault::Failed) => {
+        Err(ending) => {
             shelf.abandon();
-            return Err(Ending::Sink);
-        }
-        Err(SinkFault::NoMemory) => {
-            shelf.abandon();
-            return Err(Ending::NoMemory);
+            return Err(ending);
         }
     }
     match shelf.commit() {

@@ -1,17 +1,18 @@
 //! Converts `.blend` files, as the words behind the program's name say.
 #![tactic(auto)]
 
+mod catalogue_names;
 mod commands;
 mod convert;
 mod faults;
 mod files;
-mod names;
 mod opened;
 mod printing;
 mod raw_output;
 mod schema;
 
-use bl_lines::{Ending, status_of};
+use bl_commands::Ending;
+use bl_lines::status_of;
 use bl_shelf::{FolderShelf, StdoutSink};
 pub use commands::run;
 use std::alloc::{AllocError, Global};

@@ -148,10 +148,7 @@ fn read_whole(
         Ok(place) => place,
         Err(fault) => return Err(refusal(alloc, name, fault)),
     };
-    let layout = match layout_of(alloc, name, &header, payload(&header, bytes, &place)) {
-        Ok(layout) => layout,
-        Err(ending) => return Err(ending),
-    };
+    let layout = layout_of(alloc, name, &header, payload(&header, bytes, &place))?;
     let nodes = nodes_in(alloc, &blocks)?;
     if has_struct_node(&nodes) {
         return Err(refusal(alloc, name, FileFault::NotBuilt));

@@ -4,7 +4,7 @@ ghost use Rattle.bl_shelf.specs.Written.{Grows, GrowsByPrefix};
 ghost use Rattle.bl_cli.specs.Printing.{Adds};
 ghost use Rattle.bl_cli.specs.Run.{IsCaused, ComesFromOutside};
 
-use bl_lines::Ending;
+use bl_commands::Ending;
 use bl_shelf::{Sink, SinkFault};
 
 // How many bytes are gathered before they are put.

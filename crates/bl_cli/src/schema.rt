@@ -6,17 +6,18 @@ ghost use Rattle.bl_answers.specs.Printed.{member_line, schema_line, schema_text
 ghost use Rattle.bl_shelf.specs.Told.{held_of};
 ghost use Rattle.bl_shelf.specs.Written.{Grows, GrowsByPrefix};
 ghost use Rattle.bl_cli.specs.Outcome.{schema_outcome};
-ghost use Rattle.bl_cli.specs.Conversion.{IsPrinted};
+ghost use Rattle.bl_cli.specs.Accomplished.{IsPrinted};
 ghost use Rattle.bl_cli.specs.Printing.{Adds};
 ghost use Rattle.bl_cli.specs.Run.{IsCaused, IsChecked, IsDone, IsLeft, IsNotUsage, ComesFromOutside, own_text};
 
-use crate::names::{member_name, member_type_name, struct_name};
+use crate::catalogue_names::{member_name, member_type_name, struct_name};
 use crate::opened::open;
 use crate::printing::{add_line, put};
+use bl_commands::Ending;
 use bl_format::Catalogue;
 use bl_header::Header;
 use bl_layout::Layout;
-use bl_lines::{Ending, member_line, schema_line, struct_line};
+use bl_lines::{member_line, schema_line, struct_line};
 use bl_shelf::{Shelf, Sink};
 use std::alloc::{AllocError, Global};
 

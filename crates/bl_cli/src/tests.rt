@@ -83,7 +83,21 @@ const ODD: &[u8] =
     \0\x0d\0\x0d\0\x07\0\n\0\x07\0\x04\0\x0e\0\x06\0\x0f\0\x0c\0\x10\0\x08\0\x11\0\x04\0\
     \x12\0\x04\0\x13\0ENDB\0\0\0\0\0\0\0\0\0\0\0\0\0\0\0\0\0\0\0\0";
 
-// What is printed of it.
+// A struct of a byte, and 20 structs that each hold it 65,535 times: too many leaves.
+const MANY_LEAVES: &[u8] =
+    b"BLENDER-v405DNA1X\x01\0\0\0\0\0\0\0\0\0\0\0\0\0\0\x01\0\0\0SDNANAME\x02\0\0\0cell\0cel\
+    ls[65535]\0\0\0TYPE\x16\0\0\0S0\0S1\0S2\0S3\0S4\0S5\0S6\0S7\0S8\0S9\0S10\0S11\0S12\0S1\
+    3\0S14\0S15\0S16\0S17\0S18\0S19\0S20\0char\0\0TLEN\x01\0\xff\xff\xff\xff\xff\xff\xff\
+    \xff\xff\xff\xff\xff\xff\xff\xff\xff\xff\xff\xff\xff\xff\xff\xff\xff\xff\xff\xff\xff\
+    \xff\xff\xff\xff\xff\xff\xff\xff\xff\xff\xff\xff\x01\0STRC\x15\0\0\0\0\0\x01\0\x15\0\0\
+    \0\x01\0\x01\0\0\0\x01\0\x02\0\x01\0\0\0\x01\0\x03\0\x01\0\0\0\x01\0\x04\0\x01\0\0\0\
+    \x01\0\x05\0\x01\0\0\0\x01\0\x06\0\x01\0\0\0\x01\0\x07\0\x01\0\0\0\x01\0\x08\0\x01\0\0\
+    \0\x01\0\x09\0\x01\0\0\0\x01\0\n\0\x01\0\0\0\x01\0\x0b\0\x01\0\0\0\x01\0\x0c\0\x01\0\0\
+    \0\x01\0\x0d\0\x01\0\0\0\x01\0\x0e\0\x01\0\0\0\x01\0\x0f\0\x01\0\0\0\x01\0\x10\0\x01\0\
+    \0\0\x01\0\x11\0\x01\0\0\0\x01\0\x12\0\x01\0\0\0\x01\0\x13\0\x01\0\0\0\x01\0\x14\0\x01\
+    \0\0\0\x01\0ENDB\0\0\0\0\0\0\0\0\0\0\0\0\0\0\0\0\0\0\0\0";
+
+// What is printed of the small catalogue.
 const ALONE_PRINTED: &str =
     "version 405 width 8 order little names 20 types 14 structs 5\nstruct 0 Link 16\n  0 8 \
     Link *next\n  8 8 Link *prev\nstruct 1 ID 104\n  0 8 void *next\n  8 8 void *prev\n  1\
@@ -167,6 +181,11 @@ fn refuses_catalogues(rt: HostRuntime) -> Result<(), Fail> {
         let whole = format!(in alloc; "bad file a: {line}\n")?;
         assert_eq!(rt; sink.bytes(), whole.as_bytes());
     }
+    let mut shelf = shelf_of(alloc, MANY_LEAVES, Vec::new(alloc), false)?;
+    let mut sink = MemorySink::new(alloc, Vec::new(alloc));
+    let words = words(alloc, &["schema", "a"])?;
+    assert_eq!(rt; run(alloc, &words, &mut shelf, &mut sink), 9);
+    assert_eq!(rt; sink.bytes(), b"limit leaves 1114096\n".as_slice());
     Ok(())
 }
 

@@ -3,7 +3,7 @@ use Rattle.std.specs.Prelude.{OnErr, OnOk, IfSome}
 use Rattle.bl_commands.specs.declared.command.Command.{Command}
 use Rattle.bl_shelf.specs.Told.{held_of}
 use Rattle.bl_shelf.specs.Written.{GrowsByPrefix}
-use Rattle.bl_cli.specs.Conversion.{Accomplishes}
+use Rattle.bl_cli.specs.Accomplished.{Accomplishes}
 use Rattle.bl_cli.specs.Outcome.{command_in, command_outcome}
 use Rattle.bl_cli.specs.Run.{own_text}
 use Rattle.bl_cli.proofs.Built.{command_built}

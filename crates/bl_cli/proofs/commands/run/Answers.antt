@@ -1,6 +1,7 @@
 use Rattle.bl_cli.specs.Outcome.{command_in, run_outcome}
-use Rattle.bl_cli.specs.Conversion.{Accomplishes}
+use Rattle.bl_cli.specs.Accomplished.{Accomplishes}
 use Rattle.bl_shelf.specs.Told.{held_of}
+use Rattle.bl_cli.proofs.Acceptance.{run_able}
 use Rattle.bl_cli.proofs.Refusals.{run_caused}
 use Rattle.bl_cli.proofs.Runs.{run_accomplished, run_lines, run_part, run_usage}
 use Rattle.bl_cli.proofs.commands.run.Goals as goal
@@ -34,3 +35,6 @@ returns-clause-accomplishes g c =
 
 pub returns-clause-causes : goal.returns-clause-causes
 returns-clause-causes g c = run_caused (g.S.Shelf.told c.args.shelf.now) (command_in c.args.words.now)
+
+pub returns-clause-able : goal.returns-clause-able
+returns-clause-able g c = run_able (g.S.Shelf.told c.args.shelf.now) (command_in c.args.words.now)

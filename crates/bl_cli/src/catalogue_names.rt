@@ -1,4 +1,4 @@
-// Names in a catalogue by numbers.
+// Names in a catalogue by numbers; what isn't there has no name.
 ghost use Rattle.std.specs.Prelude.{◌≡◌};
 ghost use Rattle.bl_format.specs.Layout.{struct_name, member_entry, type_entry};
 ghost use Rattle.bl_answers.specs.Printed.{whole_member_name};

@@ -1,8 +1,8 @@
 -- What the commands accomplish, by the reading of their input: the top of what is proved of them.
-use Rattle.std.specs.Prelude.{◌≡◌, ◌<◌, ℕ, All, List, length, Option, Some}
+use Rattle.std.specs.Prelude.{◌≡◌, ◌≤◌, ◌<◌, ℕ, All, List, length, Option, Some}
 use Rattle.std.specs.FinMap.{get, insert}
 use Rattle.bl_format.specs.declared.file.Head.{Head}
-use Rattle.bl_format.specs.Limits.{most_blocks}
+use Rattle.bl_format.specs.Limits.{most_blocks, most_input_bytes}
 use Rattle.bl_format.specs.Nodes.{File, Accepted}
 use Rattle.bl_commands.specs.declared.command.Command.{Command}
 use Rattle.bl_commands.specs.declared.command.Command.TheVariants.{Convert, Schema}
@@ -18,6 +18,20 @@ pub record IsRawFile (b : List ℕ) (f : File) : Type 0 where
   pub accepted : Accepted b f
   pub few : length f.nodes < most_blocks
   pub raw : All (λ (x : Head). x.index ≡ 0) f.nodes
+
+-- the input is held, no longer than the limit, and accepted as a file of raw nodes
+pub record IsReadable (held : Held) (input : List ℕ) : Type 0 where
+  pub b : List ℕ
+  pub file : File
+  pub is_held : get held input ≡ Some b
+  pub small : length b ≤ most_input_bytes
+  pub accepted : IsRawFile b file
+
+-- a command that is built finds what it needs
+abbrev pub CanBeDone : Option Command → Held → Type 0
+CanBeDone (Some (Convert input out options)) held = IsReadable held input
+CanBeDone (Some (Schema input)) held = IsReadable held input
+CanBeDone _ held = ⊥
 
 -- The old bytes are accepted. The new bytes are the header, the old nodes with new addresses, the catalogue and
 -- the end, and are accepted as a file of these.
