@@ -1,12 +1,15 @@
-ghost use Rattle.std.specs.Prelude.{◌≡◌, ◌≤◌, ◌<◌, ◌+◌, ◌++◌, ◌∷◌, [], length, map, IfOk};
+ghost use Rattle.std.specs.Prelude.{◌≡◌, ◌≤◌, ◌<◌, ◌+◌, ◌==◌, ◌||◌, List, ℕ, [], length, IfOk};
+ghost use Rattle.std.specs.BTreeSet.{contains};
+ghost use Rattle.std.specs.Ordering.{nat_cmp};
+ghost use Rattle.std.specs.Str.{bytes_eq};
 ghost use Rattle.bl_format.specs.Schema.{Gives, count_at, name_at, many_at, type_names_at, member_at, structs_at, type_entries};
-ghost use Rattle.bl_sdna.specs.Parts.{type_name_at, members_at, struct_at};
+ghost use Rattle.bl_sdna.specs.Parts.{has_name, type_name_at, members_at, struct_at};
 
 use crate::place::{index_at, name_at, short_at};
 use bl_format::{MemberEntry, SdnaFault, StructEntry, TypeEntry};
 use bl_num::{Items, Order, Text};
-use indexmap::IndexSet;
 use std::alloc::{AllocError, Global};
+use std::collections::BTreeSet;
 
 /// A number of names.
 pub fn names(
@@ -31,18 +34,18 @@ pub fn names(
 }
 
 // The name of a type, which none of those seen is, and is seen from then on.
-#[tactic(auto, unfolding(crate::specs::Parts::type_name_at))]
+#[tactic(auto, using(crate::proofs::Seen::name_put), unfolding(crate::specs::Parts::type_name_at))]
 fn type_name_at<'a>(
     bytes: &'a [u8],
-    seen: &mut IndexSet<&'a [u8]>,
+    seen: &mut BTreeSet<&'a [u8]>,
     at: usize,
 ) -> Result<(&'a [u8], usize), SdnaFault>
     requires { at ≤ length bytes.now }
     ensures read { Gives (λ read. (read.0.now, read.1)) result
-        (type_name_at bytes.now (map (λ name. name.now) seen.old.keys) at) }
+        (type_name_at bytes.now (has_name seen.old) at) }
     ensures within { IfOk result (λ read. read.1 ≤ length bytes.now) }
-    ensures seen { IfOk result (λ read. map (λ name. name.now) seen.new.keys
-        ≡ map (λ name. name.now) seen.old.keys ++ read.0.now ∷ []) }
+    ensures seen { IfOk result (λ read. (name : List ℕ) → has_name seen.new name
+        ≡ (bytes_eq name read.0.now || has_name seen.old name)) }
 {
     let (name, after) = name_at(bytes, at)?;
     if seen.insert(name)? {
@@ -65,7 +68,7 @@ pub fn type_names(
     ensures within { IfOk result (λ read. read.1 ≤ length bytes.now) }
 {
     let mut names = Vec::new(alloc);
-    let mut seen = IndexSet::new(alloc);
+    let mut seen = BTreeSet::new(alloc);
     let mut place = at;
     for _ in 0..count {
         let (name, after) = type_name_at(bytes, &mut seen, place)?;
@@ -192,15 +195,15 @@ fn struct_at(
     types: usize,
     names: usize,
     bytes: &[u8],
-    seen: &mut IndexSet<u16>,
+    seen: &mut BTreeSet<u16>,
     at: usize,
 ) -> Result<(StructEntry, usize), SdnaFault>
     requires { at ≤ length bytes.now }
     ensures read { Gives (λ read. read) result
-        (struct_at order types names bytes.now seen.old.keys at) }
+        (struct_at order types names bytes.now (contains nat_cmp seen.old) at) }
     ensures within { IfOk result (λ read. read.1 ≤ length bytes.now) }
-    ensures seen { IfOk result (λ read. seen.new.keys
-        ≡ seen.old.keys ++ read.0.type_number ∷ []) }
+    ensures seen { IfOk result (λ read. (number : ℕ) → contains nat_cmp seen.new number
+        ≡ ((read.0.type_number == number) || contains nat_cmp seen.old number)) }
 {
     let (type_number, after) = index_at(order, types, bytes, at)?;
     if !seen.insert(type_number)? {
@@ -232,7 +235,7 @@ pub fn structs(
     ensures within { IfOk result (λ read. read.1 ≤ length bytes.now) }
 {
     let mut structs = Vec::new(alloc);
-    let mut seen = IndexSet::new(alloc);
+    let mut seen = BTreeSet::new(alloc);
     let mut place = at;
     for _ in 0..count {
         let (entry, after) = struct_at(alloc, order, types, names, bytes, &mut seen, place)?;
