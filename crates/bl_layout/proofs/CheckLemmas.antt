@@ -6,7 +6,7 @@ use Rattle.bl_format.specs.Layout.{Basic, basic_or_struct, content_of, struct_en
 use Rattle.bl_format.specs.Schema.{IsCatalogue, StructFits, MemberFits}
 use Rattle.bl_layout.specs.declared.check.Failed.{Failed}
 use Rattle.bl_layout.specs.Check.{first_failed}
-use Rattle.bl_layout.specs.Sizes.{basic_in, is_badly_long, parts_of}
+use Rattle.bl_layout.specs.Sizes.{basic_in, has_bad_length as is_bad_by, parts_of}
 
 basic_in-or : (o : Option Basic) (s : Option ℕ) → basic_in (basic_or_struct o s) ≡ o
 basic_in-or (Some b) s = refl
@@ -19,12 +19,12 @@ unfolding content_of
 basic_in-content_of c t = basic_in-or (basic_named (type_entry c t).name) (struct_of_type c t)
 
 -- the test of a member's length
-pub badly_long : (c : Catalogue) (s k : ℕ)
-    → is_badly_long (content_of c (struct_entry c s).type_number) (content_of c (member_entry c s k).type_number)
+pub length_test : (c : Catalogue) (s k : ℕ)
+    → is_bad_by (content_of c (struct_entry c s).type_number) (content_of c (member_entry c s k).type_number)
     (type_entry c (member_entry c s k).type_number).length (parts_of c (member_entry c s k)).pointer
     ≡ has_bad_length c s k
 unfolding name_of
-badly_long c s k = rw (basic_in-content_of c (struct_entry c s).type_number, basic_in-content_of c (member_entry c s k).type_number) refl
+length_test c s k = rw (basic_in-content_of c (struct_entry c s).type_number, basic_in-content_of c (member_entry c s k).type_number) refl
 
 -- the fault of a member by its checks
 pub member_fault-failed : (c : Catalogue) (w : Width) (s k : ℕ) (failed : Failed)

@@ -17,7 +17,7 @@ use Rattle.bl_layout.specs.Leaves.{StandBelow, InnerStand, lists_of}
 use Rattle.bl_layout.proofs.DuplicateLemmas.{map-push}
 use Rattle.bl_layout.proofs.SearchLemmas.{length-links_of, links_at}
 use Rattle.bl_layout.proofs.NestingLemmas.{length-below}
-use Rattle.bl_layout.proofs.UnfoldLemmas.{inner-nesting, inner-within, nesting-limit}
+use Rattle.bl_layout.proofs.UnfoldLemmas.{inner-nesting, inner-within, nesting-limit, nesting-some}
 
 -- ---- lists by numbers
 
@@ -157,10 +157,10 @@ pub UpTo-all : (c : Catalogue) (w : Width) (n at : ℕ) (table : List (List Leaf
     → StandUpTo c w n at table → length c.structs ≤ at → StandBelow c w (n + 1) table
 UpTo-all c w n at table up all = record { len = up.below.len; stand = λ s lt low. up.stand s (omega arith) lt low }
 
--- no struct is nested less than 0 deep
+-- no struct is nested less deep than 1
 pub Below-none : (c : Catalogue) (w : Width) (table : List (List Leaf))
-    → length table ≡ length c.structs → StandBelow c w 0 table
-Below-none c w table len = record { len = len; stand = λ s lt low. absurd (omega arith) }
+    → length table ≡ length c.structs → first_fault c w ≡ None → StandBelow c w 1 table
+Below-none c w table len e = record { len = len; stand = λ s lt low. absurd (omega (arith, nesting-some c w s e lt)) }
 
 -- all structs are nested at most as deep as the limit
 pub Below-all : (c : Catalogue) (w : Width) (table : List (List Leaf))

@@ -42,7 +42,7 @@ pub record KeepsApart (links : List (List ℕ)) (marks : List Bool) (s : ℕ) : 
   pub closed : (x y : ℕ) → is_marked marks x ≡ true → leads links x y ≡ true → is_marked marks y ≡ true
   pub apart : is_marked marks s ≡ false
 
--- a rank for each number, none of which is below that of a number to which it has a link
+-- a rank for each number; no link goes to a higher rank
 pub record AreRanks (links : List (List ℕ)) (ranks : List ℕ) : Type 0 where
   pub len : length ranks ≡ length links
   pub falls : (x y : ℕ) → leads links x y ≡ true → slice_index ranks y ≤ slice_index ranks x

@@ -28,8 +28,8 @@ basic_in (IsStruct s) = None
 basic_in IsOpaque = None
 
 -- a member of a basic type has another length than that, or its struct has the name of a basic type
-abbrev pub is_badly_long : Content → Content → ℕ → Bool → Bool
-is_badly_long own content length pointer =
+abbrev pub has_bad_length : Content → Content → ℕ → Bool → Bool
+has_bad_length own content length pointer =
     is_some (basic_in own) || (not pointer && is_bad_length (basic_in content) length)
 
 -- the struct that a member is by value

@@ -7,7 +7,7 @@ ghost use Rattle.bl_layout.specs.Identifiers.{IsFirstDuplicate};
 ghost use Rattle.bl_layout.specs.Check.{IsFirstBack, IsFirstRepeat, first_failed, struct_fault};
 
 use crate::duplicates::first_duplicate;
-use crate::members::{content_of, is_badly_long, member_size, name_of};
+use crate::members::{content_of, has_bad_length, member_size, name_of};
 use crate::tables::Tables;
 use bl_format::{Catalogue, LayoutFault, MemberEntry};
 use bl_num::Width;
@@ -61,7 +61,7 @@ pub fn member_fault(
     let failed = Failed {
         name: !name.is_good,
         identifier: member.is_duplicate,
-        length: is_badly_long(own_content, content, length, name.shape.pointer),
+        length: has_bad_length(own_content, content, length, name.shape.pointer),
         leads_back: member.leads_back,
         end: member.end > u64::from(own_length),
     };

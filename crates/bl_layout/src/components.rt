@@ -3,7 +3,8 @@ ghost use Rattle.std.specs.Prelude.{◌<◌, ◌^◌, length};
 use std::alloc::{AllocError, Global};
 
 /// Numbers of the strongly connected components of a graph by Tarjan's walk: numbers that reach one
-/// another have the same one, and a link to another component falls. Who needs that tests it.
+/// another have the same one, and a link to another component falls. Nothing here is proved of the
+/// result: callers test it.
 pub fn component_numbers(alloc: Global, links: &[Vec<u32>]) -> Result<Vec<u32>, AllocError>
     requires { length links.now < 2 ^ 32 }
 {

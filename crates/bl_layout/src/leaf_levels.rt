@@ -29,7 +29,7 @@ pub fn leaf_table(
         ≡ map (leaves_of catalogue.now width) (struct_numbers catalogue.now)) }
 {
     let mut table = empty_lists(alloc, foundation.nestings.len())?;
-    for nesting in 0..MAX_NESTING + 1 {
+    for nesting in 1..MAX_NESTING + 1 {
         build_level(
             alloc,
             catalogue,

@@ -5,7 +5,7 @@ ghost use Rattle.bl_layout.specs.Tables.{AreTables};
 ghost use Rattle.bl_layout.specs.Basics.{basic_meant, content_meant};
 ghost use Rattle.bl_layout.specs.Names.{entry_of_name};
 ghost use Rattle.bl_format.specs.Layout.{name_entry, content_of};
-ghost use Rattle.bl_layout.specs.Sizes.{element_size_of, size_of, basic_in, is_badly_long};
+ghost use Rattle.bl_layout.specs.Sizes.{element_size_of, size_of, basic_in, has_bad_length};
 
 use crate::basics::{Basic, Content, has_length};
 use crate::names::NameEntry;
@@ -72,8 +72,8 @@ fn pointer_bytes(width: Width) -> u64
 
 /// Whether a member has a length that its basic type may not have, or stands in a struct with the
 /// name of a basic type.
-pub fn is_badly_long(own: Content, content: Content, length: u16, pointer: bool) -> bool
-    ensures { result ≡ is_badly_long (content_meant own) (content_meant content) length pointer }
+pub fn has_bad_length(own: Content, content: Content, length: u16, pointer: bool) -> bool
+    ensures { result ≡ has_bad_length (content_meant own) (content_meant content) length pointer }
 {
     if basic_in(own).is_some() {
         return true;

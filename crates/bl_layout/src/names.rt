@@ -26,7 +26,7 @@ pub struct NameShape {
     pub count: u32,
 }
 
-/// What a catalogue's name says, where it is of no form that a member's name may have too.
+/// What a name says; one of neither form says only whether it makes a pointer.
 #[derive(Clone, Copy, Debug, PartialEq, Eq)]
 pub struct NameEntry {
     pub shape: NameShape,

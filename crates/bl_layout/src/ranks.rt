@@ -6,7 +6,8 @@ use crate::components::component_numbers;
 use std::alloc::{AllocError, Global};
 
 /// Ranks that don't rise along links. Where numbers reach one another they have the same rank, and
-/// no others do, so that only a ring has links within a rank.
+/// no others do, so that only a ring has links within a rank. Without rings the ranks are 1 to n, each
+/// once, on which `guessed_nestings` relies. Only that they don't rise is proved.
 pub fn ranks_of(alloc: Global, links: &[Vec<u32>]) -> Result<Vec<u32>, AllocError>
     requires few { length links.now < 2 ^ 32 }
     requires inside { StaysInside (links_of links.now) }

@@ -10,7 +10,7 @@ use Rattle.bl_layout.specs.declared.names.NameEntry.{NameEntry}
 use Rattle.bl_layout.specs.declared.check.Failed.{Failed}
 use Rattle.bl_layout.specs.Basics.{content_meant}
 use Rattle.bl_layout.specs.Sizes.{parts_of}
-use Rattle.bl_layout.proofs.CheckLemmas.{struct_fits, member_fits, badly_long, member_fault-failed}
+use Rattle.bl_layout.proofs.CheckLemmas.{struct_fits, member_fits, length_test, member_fault-failed}
 use Rattle.bl_layout.proofs.check.member_fault.Goals as goal
 
 pub returns : goal.returns
@@ -38,13 +38,13 @@ returns c =
     ap (λ (x : NameEntry). x.shape.pointer) c.name_of-name.ensures ∙ ap (λ (x : MemberEntry). (parts_of cat x).pointer) entry in
     let name : not c.name_of-name.result.is_good ≡ has_bad_name cat s k =
     ap (λ (x : NameEntry). not x.is_good) c.name_of-name.ensures ∙ ap (λ (x : MemberEntry). not (is_some (member_name (name_entry cat x.name_number)))) entry in
-    let long : c.is_badly_long.result ≡ has_bad_length cat s k =
-    c.is_badly_long.ensures ∙ rw (own_content, content, type_of, pointer) (badly_long cat s k) in
+    let long : c.has_bad_length.result ≡ has_bad_length cat s k =
+    c.has_bad_length.ensures ∙ rw (own_content, content, type_of, pointer) (length_test cat s k) in
     let own_length : c.from.result ≡ struct_length cat s =
     c.from.ensures
     ∙ ap (λ (x : StructEntry). (get_or c.as_slice-types.result.now x.type_number c.index-types-own.result).length) own
     ∙ ap (λ (xs : List TypeEntry). (get_or xs (struct_entry cat s).type_number c.index-types-own.result).length) c.as_slice-types.ensures
     ∙ ap (λ (x : TypeEntry). x.length) (get_or_default cat.types (struct_entry cat s).type_number c.index-types-own.result none (struct_fits cat s c.requires.catalogue c.requires.place).type_number) in
     let end : nat_lt c.from.result c.args.member.end ≡ overruns cat w s k = rw (own_length, c.requires.end) refl in
-    let failed : Failed = record { name = not c.name_of-name.result.is_good; identifier = c.args.member.is_duplicate; length = c.is_badly_long.result; leads_back = c.args.member.leads_back; end = nat_lt c.from.result c.args.member.end } in
+    let failed : Failed = record { name = not c.name_of-name.result.is_good; identifier = c.args.member.is_duplicate; length = c.has_bad_length.result; leads_back = c.args.member.leads_back; end = nat_lt c.from.result c.args.member.end } in
     c.first_failed.ensures ∙ member_fault-failed cat w s k failed name c.requires.duplicate long c.requires.back end

@@ -9,11 +9,12 @@ loop-nesting-init c =
     let held = c.args.foundation.now.nestings in
     Below-none cat c.args.width (lists_of c.in_ok-table.table.items)
     (omega (arith, length-lists_of c.in_ok-table.table.items, c.in_ok-table.ensures, c.len.ensures, nestings-len cat held.items c.requires.foundation.nestings, held.ok))
+    c.requires.members
 
 pub returns : goal.returns
 returns c =
     let cat = c.args.catalogue.now in
     let w = c.args.width in
-    let all : c.loop-nesting.nesting ≡ 33 = omega (arith, c.loop-nesting-test.false, c.loop-nesting.auto.nesting-end) in
+    let all : c.loop-nesting.nesting ≡ 33 = omega (arith, c.loop-nesting-test.false, c.loop-nesting.auto.nesting-end (omega arith)) in
     Below-all cat w (lists_of c.loop-nesting.table.items)
     (subst (λ (n : ℕ). StandBelow cat w n (lists_of c.loop-nesting.table.items)) all c.loop-nesting.invariant) c.requires.depth
