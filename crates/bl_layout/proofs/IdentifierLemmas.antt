@@ -2,7 +2,8 @@
 use Rattle.std.proofs.Common.{◌≡◌, ℕ, ◌+◌, ◌≤◌, ◌<◌, Bool, true, false, cond, List, [], ◌∷◌, ◌++◌, length, Option, Some, None, refl, sym, ◌∙◌, ap, arith, inl, inr, eq-eqb}
 use Rattle.std.specs.Prelude.{◌==◌, slice_index, unwrap_or}
 use Rattle.std.specs.Str.{bytes_eq}
-use Rattle.std.specs.HashMap.{HashMap, IsEmpty, get_by}
+use Rattle.std.specs.BTreeMap.{BTreeMap, IsEmpty, get_by}
+use Rattle.std.specs.declared.cmp.Ordering.{Ordering}
 use Rattle.std.proofs.lemmas.Bool.{eqb-true, cases_lt}
 use Rattle.std.proofs.lemmas.List.{length-append, get_or_push, get_or_append_left}
 use Rattle.std.proofs.lemmas.Slice.Eq.{bytes_eq-Decides}
@@ -91,5 +92,5 @@ Knows-all names known numbers i all within k = record {
 }
 
 -- an empty map has nothing
-pub get_by_empty : {K X S : Type 0} (p : K → Bool) (m : HashMap K X S) → IsEmpty m → get_by p m ≡ None
+pub get_by_empty : {K X : Type 0} (p : K → Ordering) (m : BTreeMap K X) → IsEmpty m → get_by p m ≡ None
 get_by_empty p m e = rw e refl

@@ -3,6 +3,7 @@ pub mod NameLemmas
 pub mod TableLemmas
 pub mod IdentifierLemmas
 pub mod DuplicateLemmas
+pub mod NumberedLemmas
 pub mod CheckLemmas
 pub mod OffsetLemmas
 pub mod RepeatLemmas

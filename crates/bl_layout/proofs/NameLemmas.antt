@@ -1,6 +1,6 @@
 -- A name's parts against where they stand in it.
-use Rattle.std.proofs.Common.{ap, ◌≡◌, ℕ, suc, ◌+◌, ◌≤◌, ◌<◌, Bool, true, false, List, [], ◌∷◌, length, take, drop, Option, Some, None, refl, sym, ◌∙◌, arith}
-use Rattle.std.specs.Prelude.{◌==◌, option_map, nat_lt, if◌then◌else◌}
+use Rattle.std.proofs.Common.{ap, subst, ◌≡◌, ℕ, suc, ◌+◌, ◌≤◌, ◌<◌, Bool, true, false, List, [], ◌∷◌, length, take, drop, Option, Some, None, refl, sym, ◌∙◌, arith}
+use Rattle.std.specs.Prelude.{◌==◌, option_map, unwrap_or, nat_lt, if◌then◌else◌}
 use Rattle.std.specs.List.{prefix_len}
 use Rattle.std.specs.Char.{is_ascii_digit}
 use Rattle.std.specs.Str.{byte}
@@ -12,7 +12,7 @@ use Rattle.std.specs.Str.{bytes_eq}
 use Rattle.std.specs.Prelude.{codes, ◌&&◌, nat_le, slice_index}
 use Rattle.std.proofs.lemmas.Slice.Eq.{bytes_eq-Decides}
 use Rattle.bl_format.specs.Limits.{most_elements}
-use Rattle.bl_format.specs.Members.{MemberName, member_name, within_count, function_name, function_parts, extents, number_in, product, is_word_byte, plain_parts, plain_name}
+use Rattle.bl_format.specs.Members.{MemberName, member_name, other_name, within_count, function_name, function_parts, extents, number_in, product, is_word_byte, plain_parts, plain_name}
 use Rattle.bl_layout.specs.declared.names.NameShape.{NameShape}
 use Rattle.bl_layout.specs.Names.{name_parts, shape_of_name, bounded_count, bounded_shape, bracket_count, opens_number}
 
@@ -134,12 +134,19 @@ pub record IsShapeIn (name : List ℕ) (x : NameShape) : Type 0 where
   pub same : take x.identifier_len (drop x.identifier_at name) ≡ (name_parts name).identifier
   pub inside : x.identifier_at + x.identifier_len ≤ length name
 
-pub some_shape : (name : List ℕ) (x : NameShape) → Some x ≡ option_map shape_of_name (member_name name) → IsShapeIn name x
-some_shape name x e = go (member_name name) refl e
+-- what a name says stands in it
+pub entry_shape : (name : List ℕ) → IsShapeIn name (shape_of_name (name_parts name))
+entry_shape name = go (member_name name) refl
   where
-    go : (o : Option MemberName) → member_name name ≡ o → Some x ≡ option_map shape_of_name o → IsShapeIn name x
-    go None is e = absurd cc
-    go (Some m) is e =
-        let same : x ≡ shape_of_name m = cc in
-        let stands = identifier_stands name m is in
-        rw same (record { same = rw is stands.same; inside = stands.inside })
+    of : (m : MemberName) → name_parts name ≡ m → StandsIn name m → IsShapeIn name (shape_of_name (name_parts name))
+    of m is stands = record {
+      same = subst (λ (p : MemberName). take (length p.identifier) (drop p.identifier_at name) ≡ p.identifier) (sym is) stands.same;
+      inside = subst (λ (p : MemberName). p.identifier_at + length p.identifier ≤ length name) (sym is) stands.inside;
+    }
+
+    parts : (o : Option MemberName) → member_name name ≡ o → name_parts name ≡ unwrap_or o (other_name name)
+    parts o is = ap (λ (x : Option MemberName). unwrap_or x (other_name name)) is
+
+    go : (o : Option MemberName) → member_name name ≡ o → IsShapeIn name (shape_of_name (name_parts name))
+    go None is = of (other_name name) (parts None is) (record { same = refl; inside = omega arith })
+    go (Some m) is = of m (parts (Some m) is) (identifier_stands name m is)

@@ -8,10 +8,12 @@ use Rattle.std.proofs.lemmas.List.{get_or_default}
 use Rattle.bl_format.specs.Words.{numbers_below}
 use Rattle.bl_format.specs.declared.catalogue.Catalogue.{Catalogue}
 use Rattle.bl_format.specs.declared.catalogue.MemberEntry.{MemberEntry}
-use Rattle.bl_format.specs.Schema.{IsCatalogue}
+use Rattle.bl_format.specs.Schema.{IsCatalogue, MemberFits}
 use Rattle.bl_format.specs.Layout.{struct_entry, member_entry, member_count, name_of, is_duplicate}
-use Rattle.bl_layout.specs.Identifiers.{AreIdentifierNumbers, IsFirstDuplicate, number_of_member, stood_before}
+use Rattle.bl_layout.specs.Identifiers.{AreIdentifierNumbers, identifier_of, IsFirstDuplicate, number_of_member, stood_before}
+use Rattle.bl_layout.specs.Tables.{numbered}
 use Rattle.bl_layout.specs.Check.{IsFirstRepeat}
+use Rattle.bl_layout.proofs.NumberedLemmas.{numbered_inside, identifier_at}
 use Rattle.bl_layout.proofs.IdentifierLemmas.{bool_same}
 use Rattle.bl_layout.proofs.DuplicateLemmas.{any-append, map-push}
 use Rattle.bl_layout.proofs.CheckLemmas.{member_fits}
@@ -30,15 +32,24 @@ eqb_sym : (a b : ℕ) → eqb a b ≡ eqb b a
 eqb_sym a b = bool_same (eqb a b) (eqb b a) (λ e. eq-eqb b a (sym (eqb-true a b e))) (λ e. eq-eqb a b (sym (eqb-true b a e)))
 
 -- the number of a member's identifier is that of its name
-number_at : (c : Catalogue) (ids : List ℕ) (s k : ℕ) → AreIdentifierNumbers c.names ids → k < member_count c s
+number_at : (c : Catalogue) (ids : List ℕ) (s k : ℕ) → AreIdentifierNumbers (numbered c.names) ids → k < member_count c s
     → number_of_member ids (struct_entry c s).members k ≡ slice_index ids (member_entry c s k).name_number
 number_at c ids s k is lt =
     ap (λ (m : MemberEntry). slice_index ids m.name_number)
     (get_or_default (struct_entry c s).members k (record { type_number = 0; name_number = length ids }) (record { type_number = length c.types; name_number = length c.names }) lt)
 
+-- the test of two names by the numbers of their identifiers
+same_names : (c : Catalogue) (ids : List ℕ) (m n : MemberEntry) → AreIdentifierNumbers (numbered c.names) ids → MemberFits c m → MemberFits c n
+    → (slice_index ids m.name_number == slice_index ids n.name_number) ≡ bytes_eq (identifier_of c.names m.name_number) (identifier_of c.names n.name_number)
+same_names c ids m n numbers of_m of_n =
+    numbers.same m.name_number n.name_number
+    (numbered_inside c.names m.name_number of_m.name_number of_m.name_number_fits) (numbered_inside c.names n.name_number of_n.name_number of_n.name_number_fits)
+    ∙ ap (λ (x : List ℕ). bytes_eq x (identifier_of (numbered c.names) n.name_number)) (identifier_at c.names m.name_number of_m.name_number_fits)
+    ∙ ap (bytes_eq (identifier_of c.names m.name_number)) (identifier_at c.names n.name_number of_n.name_number_fits)
+
 -- the two tests agree
 stood_before-is_duplicate : (c : Catalogue) (ids : List ℕ) (s k : ℕ)
-    → IsCatalogue c → s < length c.structs → AreIdentifierNumbers c.names ids → k < member_count c s
+    → IsCatalogue c → s < length c.structs → AreIdentifierNumbers (numbered c.names) ids → k < member_count c s
     → stood_before ids (struct_entry c s).members k ≡ is_duplicate c s k
 unfolding name_of
 stood_before-is_duplicate c ids s k is lt numbers small =
@@ -46,11 +57,11 @@ stood_before-is_duplicate c ids s k is lt numbers small =
     (number_of_member ids (struct_entry c s).members) (λ j. (name_of c s j).identifier) k
     (λ j less. rw (number_at c ids s j numbers (omega arith), number_at c ids s k numbers small)
     (eqb_sym (slice_index ids (member_entry c s j).name_number) (slice_index ids (member_entry c s k).name_number)
-    ∙ numbers.same (member_entry c s k).name_number (member_entry c s j).name_number (member_fits c s k is lt small).name_number (member_fits c s j is lt (omega arith)).name_number))
+    ∙ same_names c ids (member_entry c s k) (member_entry c s j) numbers (member_fits c s k is lt small) (member_fits c s j is lt (omega arith))))
 
 -- the first member whose number stood before is the first whose identifier did
 pub first_repeat : (c : Catalogue) (ids : List ℕ) (members : List MemberEntry) (s n : ℕ)
-    → IsCatalogue c → s < length c.structs → AreIdentifierNumbers c.names ids → members ≡ (struct_entry c s).members
+    → IsCatalogue c → s < length c.structs → AreIdentifierNumbers (numbered c.names) ids → members ≡ (struct_entry c s).members
     → n ≤ length members → IsFirstDuplicate ids members n → IsFirstRepeat c s n
 first_repeat c ids members s n is lt numbers same within first = record {
   before = λ k less.

@@ -1,5 +1,9 @@
 -- Numbers that stand for the identifiers of names.
-use Rattle.std.specs.Prelude.{◌≡◌, ◌==◌, ◌<◌, ℕ, Bool, true, false, map, List, [], length, slice_index}
+use denote.Ref.{Bor}
+use Rattle.std.specs.Prelude.{◌≡◌, ◌==◌, ◌<◌, ℕ, Bool, true, false, if◌then◌else◌, map, List, [], length, slice_index, Option, Some}
+use Rattle.std.specs.BTreeMap.{BTreeMap, get_by}
+use Rattle.std.specs.Cmp.Lexicographic.{slice_cmp}
+use Rattle.std.specs.Ordering.{nat_cmp}
 use Rattle.std.specs.List.{slice_index_or}
 use Rattle.std.specs.Str.{bytes_eq}
 use Rattle.bl_format.specs.Words.{contains, numbers_below}
@@ -16,6 +20,15 @@ pub record AreIdentifierNumbers (names : List (List ℕ)) (numbers : List ℕ) :
   pub inside : (n : ℕ) → n < length names → slice_index numbers n < length names
   pub same : (n m : ℕ) → n < length names → m < length names
       → (slice_index numbers n == slice_index numbers m) ≡ bytes_eq (identifier_of names n) (identifier_of names m)
+
+-- the number by which an identifier is known
+abbrev pub known_number : BTreeMap (Bor (List ℕ)) ℕ → List ℕ → Option ℕ
+known_number known identifier = get_by (λ k. slice_cmp nat_cmp identifier k.now) known
+
+-- an identifier is known by this number, and all others are known as before
+abbrev pub Learns : BTreeMap (Bor (List ℕ)) ℕ → BTreeMap (Bor (List ℕ)) ℕ → List ℕ → ℕ → Type 0
+Learns old new identifier number =
+    (q : List ℕ) → known_number new q ≡ (if bytes_eq identifier q then Some number else known_number old q)
 
 -- the number of the identifier of member k
 abbrev pub number_of_member : List ℕ → List MemberEntry → ℕ → ℕ

@@ -2,8 +2,8 @@ ghost use Rattle.std.specs.Prelude.{◌≡◌, ◌≤◌, ◌<◌, ◌+◌, ◌^
 ghost use Rattle.bl_format.specs.Schema.{IsCatalogue};
 ghost use Rattle.bl_format.specs.Words.{find_map};
 ghost use Rattle.bl_format.specs.Layout.{member_count, member_numbers, member_entry, member_fault, member_offset, struct_length, is_duplicate, leads_back, inner_struct};
-ghost use Rattle.bl_layout.specs.Tables.{AreTables};
-ghost use Rattle.bl_layout.specs.Identifiers.{IsFirstDuplicate};
+ghost use Rattle.bl_layout.specs.Tables.{AreTables, numbered};
+ghost use Rattle.bl_layout.specs.Identifiers.{AreIdentifierNumbers};
 ghost use Rattle.bl_layout.specs.Check.{IsFirstBack, IsFirstRepeat, first_failed, struct_fault};
 
 use crate::duplicates::first_duplicate;
@@ -149,15 +149,15 @@ pub fn struct_offsets(
 }
 
 /// The first member of a struct whose identifier stood before in it, or how many members there are.
-pub fn first_repeat(catalogue: &Catalogue, tables: &Tables, s: u32, marks: &mut [u32]) -> usize
+pub fn first_repeat(catalogue: &Catalogue, identifiers: &[u32], s: u32, marks: &mut [u32]) -> usize
     requires catalogue { IsCatalogue catalogue.now }
-    requires tables { AreTables catalogue.now tables.now }
+    requires identifiers { AreIdentifierNumbers (numbered catalogue.now.names) identifiers.now }
     requires place { s < length catalogue.now.structs }
-    requires marks { length marks.old ≡ length catalogue.now.names }
+    requires marks { length marks.old ≡ length (numbered catalogue.now.names) }
     requires fresh { All (λ m. m < s + 1) marks.old }
     ensures first { IsFirstRepeat catalogue.now s result }
     ensures marked { All (λ m. m ≤ s + 1) marks.new }
 {
     let members = catalogue.structs.as_slice()[s as usize].members.as_slice();
-    first_duplicate(members, &tables.identifiers, marks, s + 1)
+    first_duplicate(members, identifiers, marks, s + 1)
 }

@@ -1,10 +1,10 @@
 ghost use Rattle.std.specs.Prelude.{◌≡◌, ◌<◌, ◌⊎◌, None, Some, IfOk, IfErr, OnOk, length};
 ghost use Rattle.bl_format.specs.Schema.{CanBeRead, IsCatalogue};
-ghost use Rattle.bl_layout.specs.Foundation.{IsFoundation};
+ghost use Rattle.bl_layout.specs.Foundation.{IsGroundwork};
 ghost use Rattle.bl_format.specs.Layout.{HasLayout, first_fault, depth_fault, layout_fault, leaves_of, struct_length, shape_of, member_count};
 
 use crate::copy::copy_of;
-use crate::foundation::{Foundation, foundation_of};
+use crate::foundation::{Foundation, Groundwork, groundwork_of};
 use crate::leaf_counts::{leaf_counts, leaves_fault};
 use crate::leaf_levels::leaf_table;
 use crate::parts::member_count;
@@ -44,12 +44,12 @@ impl Layout {
         ensures refuses { IfErr result (λ fault. (fault ≡ LayoutFault.NoMemory)
             ⊎ (layout_fault catalogue.now width ≡ Some fault)) }
     {
-        let foundation = checked_foundation(alloc, catalogue, width)?;
+        let groundwork = checked_groundwork(alloc, catalogue, width)?;
         Ok(Layout {
             catalogue: copy_of(alloc, catalogue)?,
             width,
-            leaves: leaf_table(alloc, catalogue, width, &foundation)?,
-            foundation,
+            leaves: leaf_table(alloc, catalogue, width, &groundwork)?,
+            foundation: groundwork.foundation,
         })
     }
 
@@ -109,24 +109,24 @@ impl Layout {
     }
 }
 
-// The foundation of a layout that passes all checks.
-fn checked_foundation(
+// The groundwork of a layout that passes all checks.
+fn checked_groundwork(
     alloc: Global,
     catalogue: &Catalogue,
     width: Width,
-) -> Result<Foundation, LayoutFault>
+) -> Result<Groundwork, LayoutFault>
     requires { IsCatalogue catalogue.now }
-    ensures stands { IfOk result (IsFoundation catalogue.now width) }
+    ensures stands { IfOk result (IsGroundwork catalogue.now width) }
     ensures members { OnOk result (first_fault catalogue.now width ≡ None) }
     ensures depth { OnOk result (depth_fault catalogue.now ≡ None) }
     ensures passes { OnOk result (layout_fault catalogue.now width ≡ None) }
     ensures refuses { IfErr result (λ fault. (fault ≡ LayoutFault.NoMemory)
         ⊎ (layout_fault catalogue.now width ≡ Some fault)) }
 {
-    let foundation = foundation_of(alloc, catalogue, width)?;
-    let counts = leaf_counts(alloc, catalogue, width, &foundation)?;
+    let groundwork = groundwork_of(alloc, catalogue, width)?;
+    let counts = leaf_counts(alloc, catalogue, width, &groundwork)?;
     match leaves_fault(catalogue, width, &counts) {
         Some(fault) => Err(fault),
-        None => Ok(foundation),
+        None => Ok(groundwork),
     }
 }

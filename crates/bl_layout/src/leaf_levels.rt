@@ -1,10 +1,10 @@
 ghost use Rattle.std.specs.Prelude.{◌≡◌, ◌<◌, ◌+◌, ◌^◌, ◌++◌, All, None, IfOk, OnOk, length, map};
 ghost use Rattle.bl_format.specs.Schema.{IsCatalogue};
 ghost use Rattle.bl_format.specs.Layout.{depth_fault, first_fault, leaves_of, member_count, struct_numbers};
-ghost use Rattle.bl_layout.specs.Foundation.{IsFoundation};
+ghost use Rattle.bl_layout.specs.Foundation.{IsFoundation, IsGroundwork};
 ghost use Rattle.bl_layout.specs.Leaves.{InnerStand, StandBelow, lists_of, member_leaf_list};
 
-use crate::foundation::Foundation;
+use crate::foundation::{Foundation, Groundwork};
 use crate::graph::inner_struct;
 use crate::leaves::{own_leaf, push_elements};
 use crate::nesting::MAX_NESTING;
@@ -18,23 +18,23 @@ pub fn leaf_table(
     alloc: Global,
     catalogue: &Catalogue,
     width: Width,
-    foundation: &Foundation,
+    groundwork: &Groundwork,
 ) -> Result<Vec<Vec<Leaf>>, AllocError>
     requires catalogue { IsCatalogue catalogue.now }
-    requires foundation { IsFoundation catalogue.now width foundation.now }
+    requires groundwork { IsGroundwork catalogue.now width groundwork.now }
     requires members { first_fault catalogue.now width ≡ None }
     requires depth { depth_fault catalogue.now ≡ None }
     requires names { All (λ n. length n < 2 ^ 32) catalogue.now.names }
     ensures { IfOk result (λ table. map (λ v. v.items) table.items
         ≡ map (leaves_of catalogue.now width) (struct_numbers catalogue.now)) }
 {
-    let mut table = empty_lists(alloc, foundation.nestings.len())?;
+    let mut table = empty_lists(alloc, groundwork.nestings.len())?;
     for nesting in 1..MAX_NESTING + 1 {
         build_level(
             alloc,
             catalogue,
             width,
-            foundation,
+            groundwork,
             nesting,
             table.as_mut_slice(),
         )?;
@@ -58,21 +58,28 @@ fn build_level(
     alloc: Global,
     catalogue: &Catalogue,
     width: Width,
-    foundation: &Foundation,
+    groundwork: &Groundwork,
     nesting: u64,
     table: &mut [Vec<Leaf>],
 ) -> Result<(), AllocError>
     requires catalogue { IsCatalogue catalogue.now }
-    requires foundation { IsFoundation catalogue.now width foundation.now }
+    requires groundwork { IsGroundwork catalogue.now width groundwork.now }
     requires members { first_fault catalogue.now width ≡ None }
     requires depth { depth_fault catalogue.now ≡ None }
     requires names { All (λ n. length n < 2 ^ 32) catalogue.now.names }
     requires below { StandBelow catalogue.now width nesting (lists_of table.old) }
     ensures { OnOk result (StandBelow catalogue.now width (nesting + 1) (lists_of table.new)) }
 {
-    for (s, own) in foundation.nestings.iter().enumerate() {
+    for (s, own) in groundwork.nestings.iter().enumerate() {
         if *own == nesting {
-            table[s] = struct_leaves(alloc, catalogue, width, foundation, table, s as u32)?;
+            table[s] = struct_leaves(
+                alloc,
+                catalogue,
+                width,
+                &groundwork.foundation,
+                table,
+                s as u32,
+            )?;
         }
     }
     Ok(())

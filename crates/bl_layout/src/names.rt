@@ -73,14 +73,12 @@ fn other_shape(name: &[u8]) -> NameShape
     }
 }
 
-/// The identifier in a name.
-pub fn identifier_in(name: &[u8]) -> &[u8]
+/// The identifier in a name, by what the name says.
+pub fn identifier_in(name: &[u8], shape: NameShape) -> &[u8]
+    requires { shape ≡ shape_of_name (name_parts name.now) }
     ensures { result.now ≡ (name_parts name.now).identifier }
 {
-    match name_shape(name) {
-        Some(shape) => &name[shape.identifier_at..shape.identifier_at + shape.identifier_len],
-        None => &[],
-    }
+    &name[shape.identifier_at..shape.identifier_at + shape.identifier_len]
 }
 
 /// The parts of a name of one of the two forms that a member's name may have.

@@ -3,6 +3,7 @@ ghost use Rattle.std.specs.List.{list_all};
 ghost use Rattle.bl_format.specs.Schema.{IsCatalogue};
 ghost use Rattle.bl_format.specs.Layout.{first_fault};
 ghost use Rattle.bl_layout.specs.Survey.{IsSurvey};
+ghost use Rattle.bl_layout.specs.Tables.{numbered};
 ghost use Rattle.bl_layout.specs.Check.{AreOffsets, IsFirstBack};
 
 use crate::check::{Suspects, first_repeat, struct_offsets};
@@ -22,7 +23,7 @@ pub fn all_offsets(
 ) -> Result<Vec<Vec<u32>>, LayoutFault>
     requires catalogue { IsCatalogue catalogue.now }
     requires survey { IsSurvey catalogue.now survey.now }
-    requires marks { length marks.old ≡ length catalogue.now.names }
+    requires marks { length marks.old ≡ length (numbered catalogue.now.names) }
     requires fresh { All (λ m. m < 1) marks.old }
     ensures offsets { IfOk result (λ offsets. AreOffsets catalogue.now width offsets.items) }
     ensures passes { OnOk result (first_fault catalogue.now width ≡ None) }
@@ -32,7 +33,7 @@ pub fn all_offsets(
     let structs = catalogue.structs.as_slice().len();
     let mut offsets = Vec::with_capacity(alloc, structs)?;
     for s in 0..structs as u32 {
-        let duplicate = first_repeat(catalogue, &survey.tables, s, marks);
+        let duplicate = first_repeat(catalogue, &survey.identifiers, s, marks);
         let back = back_of(alloc, catalogue, survey, s)?;
         let suspects = Suspects { duplicate, back };
         offsets.push(struct_offsets(alloc, catalogue, &survey.tables, width, s, suspects)?)?;

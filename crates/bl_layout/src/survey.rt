@@ -3,8 +3,9 @@ ghost use Rattle.bl_format.specs.Schema.{IsCatalogue};
 ghost use Rattle.bl_layout.specs.Survey.{IsSurvey};
 
 use crate::graph::inner_structs;
+use crate::identifiers::identifier_numbers;
 use crate::ranks::ranks_of;
-use crate::tables::{Tables, tables_of};
+use crate::tables::{Tables, numbered, tables_of};
 use bl_format::Catalogue;
 use std::alloc::{AllocError, Global};
 
@@ -12,6 +13,8 @@ use std::alloc::{AllocError, Global};
 #[derive(Drop)]
 pub struct Survey {
     pub tables: Tables,
+    /// Of each name, the number of its identifier.
+    pub identifiers: Vec<u32>,
     /// Of each struct, the structs in it.
     pub inner: Vec<Vec<u32>>,
     /// Of each struct, a rank that is no lower than those of the structs in it.
@@ -23,10 +26,13 @@ pub fn survey_of(alloc: Global, catalogue: &Catalogue) -> Result<Survey, AllocEr
     ensures { IfOk result (IsSurvey catalogue.now) }
 {
     let tables = tables_of(alloc, catalogue)?;
+    let names = numbered(catalogue.names.as_slice());
+    let identifiers = identifier_numbers(alloc, names, tables.names.as_slice())?;
     let inner = inner_structs(alloc, catalogue, &tables)?;
     let ranks = ranks_of(alloc, &inner)?;
     Ok(Survey {
         tables,
+        identifiers,
         inner,
         ranks,
     })

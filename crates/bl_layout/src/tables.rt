@@ -1,20 +1,20 @@
-ghost use Rattle.std.specs.Prelude.{IfOk};
+ghost use Rattle.std.specs.Prelude.{◌≡◌, IfOk};
 ghost use Rattle.bl_format.specs.Schema.{IsCatalogue};
-ghost use Rattle.bl_layout.specs.Tables.{AreTables};
+ghost use Rattle.bl_layout.specs.Tables.{AreTables, numbered};
 
 use crate::basics::Content;
-use crate::identifiers::identifier_numbers;
 use crate::names::{NameEntry, name_entries};
 use crate::types::contents;
 use bl_format::Catalogue;
 use std::alloc::{AllocError, Global};
 
-/// What is known of a catalogue's names and types, by their numbers.
+// How many names or types a number of 16 bits may mean.
+const MOST_NUMBERED: usize = 65_536;
+
+/// What is known of the names and types of a catalogue that a number may mean.
 #[derive(Debug, Drop)]
 pub struct Tables {
     pub names: Vec<NameEntry>,
-    /// Of each name, the number of its identifier.
-    pub identifiers: Vec<u32>,
     /// What each type holds.
     pub contents: Vec<Content>,
 }
@@ -23,13 +23,18 @@ pub fn tables_of(alloc: Global, catalogue: &Catalogue) -> Result<Tables, AllocEr
     requires { IsCatalogue catalogue.now }
     ensures { IfOk result (AreTables catalogue.now) }
 {
+    let types = numbered(catalogue.types.as_slice());
+    let names = numbered(catalogue.names.as_slice());
+    let structs = catalogue.structs.as_slice();
     Ok(Tables {
-        names: name_entries(alloc, catalogue.names.as_slice())?,
-        identifiers: identifier_numbers(alloc, catalogue.names.as_slice())?,
-        contents: contents(
-            alloc,
-            catalogue.types.as_slice(),
-            catalogue.structs.as_slice(),
-        )?,
+        names: name_entries(alloc, names)?,
+        contents: contents(alloc, types, structs)?,
     })
+}
+
+/// The first of some names or types. A catalogue may have many more, which nothing can mean.
+pub fn numbered<T>(all: &[T]) -> &[T]
+    ensures { result.now ≡ numbered all.now }
+{
+    &all[..all.len().min(MOST_NUMBERED)]
 }

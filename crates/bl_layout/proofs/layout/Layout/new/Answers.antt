@@ -1,8 +1,8 @@
 use Rattle.bl_layout.proofs.ReadLemmas.{can_be_read-IsCatalogue, can_be_read-short_names}
 use Rattle.bl_layout.proofs.layout.Layout.new.Goals as goal
 
-pub checked_foundation-requires : goal.checked_foundation-requires
-checked_foundation-requires c = can_be_read-IsCatalogue c.args.catalogue.now c.requires
+pub checked_groundwork-requires : goal.checked_groundwork-requires
+checked_groundwork-requires c = can_be_read-IsCatalogue c.args.catalogue.now c.requires
 
 pub leaf_table-requires-clause-catalogue : goal.leaf_table-requires-clause-catalogue
 leaf_table-requires-clause-catalogue c = can_be_read-IsCatalogue c.args.catalogue.now c.requires
