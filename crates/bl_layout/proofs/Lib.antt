@@ -18,3 +18,4 @@ pub mod UnfoldLemmas
 pub mod CountLemmas
 pub mod BuildLemmas
 pub mod LevelLemmas
+pub mod LeafFactLemmas

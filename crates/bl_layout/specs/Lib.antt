@@ -12,3 +12,4 @@ pub mod Shapes
 pub mod LaidOut
 pub mod Counts
 pub mod Leaves
+pub mod LeafFacts

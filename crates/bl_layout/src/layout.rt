@@ -1,6 +1,7 @@
-ghost use Rattle.std.specs.Prelude.{◌≡◌, ◌<◌, ◌⊎◌, None, Some, IfOk, IfErr, OnOk, length};
+ghost use Rattle.std.specs.Prelude.{◌≡◌, ◌<◌, ◌⊎◌, None, Some, All, IfOk, IfErr, OnOk, length};
 ghost use Rattle.bl_format.specs.Schema.{CanBeRead, IsCatalogue};
 ghost use Rattle.bl_layout.specs.Foundation.{IsGroundwork};
+ghost use Rattle.bl_layout.specs.LeafFacts.{AreApart, IsSized, EndsAtZero};
 ghost use Rattle.bl_format.specs.Layout.{HasLayout, first_fault, depth_fault, layout_fault, leaves_of, struct_length, shape_of, member_count};
 
 use crate::copy::copy_of;
@@ -86,7 +87,11 @@ impl Layout {
     /// The leaves of a struct, in order.
     pub fn leaves(&self, s: u32) -> &[Leaf]
         requires { s < length self.now.catalogue.structs }
-        ensures { result.now ≡ leaves_of self.now.catalogue self.now.width s }
+        ensures leaves { result.now ≡ leaves_of self.now.catalogue self.now.width s }
+        ensures apart { AreApart 0 result.now (struct_length self.now.catalogue s) }
+        ensures sized { All (IsSized self.now.width) result.now }
+        ensures last_step { All EndsAtZero result.now }
+        ensures has_layout { HasLayout self.now.catalogue self.now.width }
     {
         self.leaves[s as usize].as_slice()
     }
@@ -103,7 +108,8 @@ impl Layout {
     pub fn member_shape(&self, s: u32, member: u32) -> Shape
         requires s { s < length self.now.catalogue.structs }
         requires member { member < member_count self.now.catalogue s }
-        ensures { result ≡ shape_of self.now.catalogue self.now.width s member }
+        ensures shape { result ≡ shape_of self.now.catalogue self.now.width s member }
+        ensures has_layout { HasLayout self.now.catalogue self.now.width }
     {
         member_shape(&self.catalogue, self.width, &self.foundation, s, member)
     }
