@@ -21,6 +21,12 @@ const OBJECT: u32 = 3;
 
 const MESH: u32 = 4;
 
+// The name of member 1 of the last struct, and the low bytes of the lengths that structs have with
+// 4-byte pointers.
+const INDEX_NAME: usize = 101;
+
+const NARROW_LENGTHS: [(usize, u8); 5] = [(258, 8), (260, 88), (262, 88), (264, 112), (266, 112)];
+
 // A bracket of a member's name, the lengths of two types, and numbers of a type and of a name.
 const PAD_BRACKET: usize = 97;
 
@@ -32,9 +38,9 @@ const OBJECT_TYPE_NAME: usize = 354;
 
 const MESH_ID_TYPE: usize = 364;
 
-fn layout_of(rt: &HostRuntime, bytes: &[u8; 392]) -> Result<Layout, LayoutFault> {
+fn layout_of(rt: &HostRuntime, bytes: &[u8; 392], width: Width) -> Result<Layout, LayoutFault> {
     match parse_catalogue(rt.alloc(), Order::Little, bytes) {
-        Ok(catalogue) => Layout::new(rt.alloc(), &catalogue, Width::Eight),
+        Ok(catalogue) => Layout::new(rt.alloc(), &catalogue, width),
         Err(_) => Err(LayoutFault::NoMemory),
     }
 }
@@ -44,6 +50,13 @@ fn shape_in(layout: &Layout, s: u32, member: u32) -> Option<Shape> {
         Some(layout.member_shape(s, member))
     } else {
         None
+    }
+}
+
+fn place_in(layout: &Layout, s: u32, member: u32) -> Option<(u32, u32)> {
+    match shape_in(layout, s, member) {
+        Some(shape) => Some((shape.offset, shape.size)),
+        None => None,
     }
 }
 
@@ -80,7 +93,7 @@ fn finds_faults(rt: HostRuntime) {
         let mut bytes = WIDE;
         assert!(rt; at < bytes.len());
         bytes[at] = byte;
-        assert_eq!(rt; layout_of(&rt, &bytes).err(), Some(want));
+        assert_eq!(rt; layout_of(&rt, &bytes, Width::Eight).err(), Some(want));
     }
 }
 
@@ -88,7 +101,7 @@ fn finds_faults(rt: HostRuntime) {
 fn accepts_a_tail(rt: HostRuntime) -> Result<(), LayoutFault> {
     let mut bytes = WIDE;
     bytes[OBJECT_LENGTH] = 137;
-    let layout = layout_of(&rt, &bytes)?;
+    let layout = layout_of(&rt, &bytes, Width::Eight)?;
     assert!(rt; OBJECT < layout.struct_count());
     assert_eq!(rt; layout.length(OBJECT), 137);
     Ok(())
@@ -96,7 +109,7 @@ fn accepts_a_tail(rt: HostRuntime) -> Result<(), LayoutFault> {
 
 #[test]
 fn lays_out_members(rt: HostRuntime) -> Result<(), LayoutFault> {
-    let layout = layout_of(&rt, &WIDE)?;
+    let layout = layout_of(&rt, &WIDE, Width::Eight)?;
     let plain = Shape {
         pointer: false,
         depth: 0,
@@ -138,8 +151,45 @@ fn lays_out_members(rt: HostRuntime) -> Result<(), LayoutFault> {
 }
 
 #[test]
+fn lays_out_four_byte_pointers(rt: HostRuntime) -> Result<(), LayoutFault> {
+    let mut bytes = WIDE;
+    for (at, byte) in NARROW_LENGTHS {
+        assert!(rt; at < bytes.len());
+        bytes[at] = byte;
+    }
+    bytes[INDEX_NAME..INDEX_NAME + 6].copy_from_slice(b"(*f)()");
+    let layout = layout_of(&rt, &bytes, Width::Four)?;
+    assert_eq!(rt; layout.width(), Width::Four);
+    assert_eq!(rt; layout.catalogue().names.as_slice().len(), 20);
+    for (member, place) in [
+        (0, (0, 88)),
+        (1, (88, 4)),
+        (2, (92, 4)),
+        (3, (96, 12)),
+        (4, (108, 2)),
+        (5, (110, 2)),
+    ] {
+        assert_eq!(rt; place_in(&layout, OBJECT, member), Some(place));
+    }
+    let function = Shape {
+        pointer: true,
+        depth: 0,
+        identifier_at: 2,
+        identifier_len: 1,
+        key_len: 6,
+        brackets: false,
+        count: 1,
+        offset: 88,
+        size: 4,
+        inner: None,
+    };
+    assert_eq!(rt; shape_in(&layout, MESH, 1), Some(function));
+    Ok(())
+}
+
+#[test]
 fn opens_inner_structs(rt: HostRuntime) -> Result<(), LayoutFault> {
-    let layout = layout_of(&rt, &WIDE)?;
+    let layout = layout_of(&rt, &WIDE, Width::Eight)?;
     assert!(rt; OBJECT < layout.struct_count());
     let leaves = layout.leaves(OBJECT);
     assert_eq!(rt; leaves.len(), 12);
