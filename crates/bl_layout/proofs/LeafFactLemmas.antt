@@ -23,7 +23,7 @@ AreApart-leaf_of from to [] h = h
 AreApart-leaf_of from to (x ∷ xs) h = (h.0, AreApart-leaf_of (end_of_leaf x) to xs h.1)
 
 -- the leaves of a struct stand apart within its length
-leaves_of-apart : (c : Catalogue) (w : Width) (s : ℕ) → layout_fault c w ≡ None
+pub leaves_of-apart : (c : Catalogue) (w : Width) (s : ℕ) → layout_fault c w ≡ None
     → AreApart 0 (leaves_of c w s) (struct_length c s)
 unfolding leaves_of
 leaves_of-apart c w s e =
@@ -36,7 +36,7 @@ FitsKind-same w (kinds.Pointer depth t) size h = h
 FitsKind-same w kinds.Opaque size h = h
 
 -- each leaf of a struct has the bytes of its kind
-leaves_of-sized : (c : Catalogue) (w : Width) (s : ℕ) → layout_fault c w ≡ None → All (IsSized w) (leaves_of c w s)
+pub leaves_of-sized : (c : Catalogue) (w : Width) (s : ℕ) → layout_fault c w ≡ None → All (IsSized w) (leaves_of c w s)
 unfolding leaves_of
 leaves_of-sized c w s e =
     All-map (IsSized w) leaf_of (named_leaves c w s)
@@ -53,7 +53,7 @@ last-behind step [] h = absurd (cc)
 last-behind step (p ∷ ps) h = h
 
 -- each leaf of a struct ends at element 0
-leaves_of-end : (c : Catalogue) (w : Width) (s : ℕ) → All EndsAtZero (leaves_of c w s)
+pub leaves_of-end : (c : Catalogue) (w : Width) (s : ℕ) → All EndsAtZero (leaves_of c w s)
 unfolding leaves_of
 leaves_of-end c w s =
     All-map EndsAtZero leaf_of (named_leaves c w s)
