@@ -1,0 +1,6 @@
+pub mod MarkLemmas
+pub mod LastPlace
+pub mod PlaceLemmas
+pub mod OrderLemmas
+pub mod SearchLemmas
+pub mod TargetLemmas

@@ -1,0 +1,21 @@
+use Rattle.std.proofs.Common.{◌≡◌, ◌+◌, ◌++◌, List, drop, map, get_or, false, refl, sym, subst}
+use Rattle.bl_addresses.specs.declared.marks.Mark.{Mark}
+use Rattle.bl_addresses.specs.Marks.{marks_by, mark_of}
+use Rattle.bl_addresses.proofs.MarkLemmas.{marks_by-push, marks_by-end}
+use Rattle.bl_addresses.proofs.marks.marks_by.Goals as goal
+
+pub loop-n-preserved : goal.loop-n-preserved
+loop-n-preserved c =
+    let gs = c.args.groups.now in
+    let as' = c.args.addresses.now in
+    let ids = c.args.ids.now in
+    let n = c.loop-n.n in
+    let m : Mark = record { group = get_or gs n 0; address = get_or as' n 0; is_an_id = get_or ids n false } in
+    let more = marks_by-push gs as' ids c.loop-n.marks.items m n 0 0 false c.loop-n-test.true c.requires.addresses c.requires.ids refl refl refl c.loop-n.invariant in
+    subst (λ (ms : List Mark). map mark_of ms ++ marks_by (drop (n + 1) gs) (drop (n + 1) as') (drop (n + 1) ids) ≡ marks_by gs as' ids)
+    (sym c.in_ok-push.ensures.items) more
+
+pub returns : goal.returns
+returns c =
+    marks_by-end c.args.groups.now c.args.addresses.now c.args.ids.now c.loop-n.marks.items c.loop-n.n c.loop-n-test.false
+    c.requires.addresses c.requires.ids c.loop-n.invariant

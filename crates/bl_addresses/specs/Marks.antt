@@ -1,0 +1,43 @@
+-- What addresses are compared with in nodes.
+use Rattle.std.specs.Prelude.{ℕ, Bool, true, false, ◌==◌, ◌&&◌, ◌||◌, nat_lt, nat_le, List, [], ◌∷◌, slice_index_or}
+use Rattle.bl_format.specs.Nodes as nodes
+use Rattle.bl_addresses.specs.declared.marks.Mark.{Mark}
+use Rattle.bl_addresses.specs.declared.marks.Place.{Place}
+use Rattle.bl_addresses.specs.declared.marks.Scope.{Scope}
+use Rattle.bl_addresses.specs.declared.marks.Scope.TheVariants.{Group, File}
+
+-- the marks of nodes, by their groups, their addresses and whether they are IDs
+unfoldable pub marks_by : List ℕ → List ℕ → List Bool → List nodes.Mark
+marks_by (group ∷ groups) (address ∷ addresses) (is_an_id ∷ ids) =
+    record { group = group; address = address; is_an_id = is_an_id } ∷ marks_by groups addresses ids
+marks_by _ _ _ = []
+
+-- a mark as contracts see it
+abbrev pub mark_of : Mark → nodes.Mark
+mark_of m = record { group = m.group; address = m.address; is_an_id = m.is_an_id }
+
+-- the mark of a node, or a blank one
+abbrev pub mark_at : List Mark → ℕ → Mark
+mark_at marks n = slice_index_or marks n (record { group = 0; address = 0; is_an_id = false })
+
+-- a node is looked up in a scope: any in its group, an ID in the file
+abbrev pub is_member : Scope → Mark → Bool
+is_member Group m = true
+is_member File m = m.is_an_id
+
+-- where a node is found in a scope: in its group, or in the file, at its address
+abbrev pub place_in : Scope → Mark → Place
+place_in Group m = record { part = m.group; address = m.address }
+place_in File m = record { part = 0; address = m.address }
+
+-- a place is no later than a bound
+abbrev pub is_up_to : Place → Place → Bool
+is_up_to bound p = nat_lt p.part bound.part || (p.part == bound.part && nat_le p.address bound.address)
+
+-- a place is the bound
+abbrev pub is_at : Place → Place → Bool
+is_at bound p = p.part == bound.part && p.address == bound.address
+
+-- a node is found in a scope at a place
+abbrev pub is_found : Scope → Place → Mark → Bool
+is_found scope place m = is_member scope m && is_at place (place_in scope m)

@@ -1,0 +1,90 @@
+ghost use Rattle.std.specs.Prelude.{◌≡◌, ◌<◌, IfOk, length, map};
+ghost use Rattle.bl_addresses.specs.Marks.{mark_of, marks_by, mark_at, is_member, place_in};
+
+use bl_num::NoMemory;
+use std::alloc::Global;
+
+/// What an address is compared with in a node.
+#[derive(Clone, Copy, Debug)]
+pub struct Mark {
+    pub group: u32,
+    pub address: u64,
+    pub is_an_id: bool,
+}
+
+/// Among which nodes an address is looked up.
+#[derive(Clone, Copy, Debug)]
+pub enum Scope {
+    /// Those of a group.
+    Group,
+    /// The IDs of the file.
+    File,
+}
+
+/// Where a node is found in a scope.
+#[derive(Clone, Copy, Debug)]
+pub struct Place {
+    /// The group, or 0 in the file.
+    pub part: u32,
+    pub address: u64,
+}
+
+// The mark where there is no node.
+const BLANK: Mark = Mark {
+    group: 0,
+    address: 0,
+    is_an_id: false,
+};
+
+/// The marks of nodes by their groups, their addresses and whether they are IDs.
+pub fn marks_by(
+    alloc: Global,
+    groups: &[u32],
+    addresses: &[u64],
+    ids: &[bool],
+) -> Result<Vec<Mark>, NoMemory>
+    requires addresses { length addresses.now ≡ length groups.now }
+    requires ids { length ids.now ≡ length groups.now }
+    ensures { IfOk result (λ marks. map mark_of marks.items ≡ marks_by groups.now addresses.now ids.now) }
+{
+    let mut marks = Vec::with_capacity(alloc, groups.len())?;
+    for (n, group) in groups.iter().enumerate() {
+        marks.push(Mark {
+            group: *group,
+            address: addresses[n],
+            is_an_id: ids[n],
+        })?;
+    }
+    Ok(marks)
+}
+
+/// The mark of a node, or a blank one.
+pub fn mark_at(marks: &[Mark], node: u32) -> Mark
+    ensures { result ≡ mark_at marks.now node }
+{
+    marks.get(node as usize).copied().unwrap_or(BLANK)
+}
+
+/// Whether a node is looked up in a scope.
+pub fn is_member(scope: Scope, mark: Mark) -> bool
+    ensures { result ≡ is_member scope mark }
+{
+    match scope {
+        Scope::Group => true,
+        Scope::File => mark.is_an_id,
+    }
+}
+
+/// Where a node is found in a scope.
+pub fn place_in(scope: Scope, mark: Mark) -> Place
+    ensures { result ≡ place_in scope mark }
+{
+    let part = match scope {
+        Scope::Group => mark.group,
+        Scope::File => 0,
+    };
+    Place {
+        part,
+        address: mark.address,
+    }
+}

@@ -1,0 +1,85 @@
+ghost use Rattle.std.specs.Prelude.{◌≡◌, ◌≤◌, ◌<◌, ◌^◌, ℕ, IfOk, length, slice_index, slice_get, option_map, Some};
+ghost use Rattle.bl_format.specs.Nodes.{target_of};
+ghost use Rattle.bl_addresses.specs.Marks.{marks_by};
+
+use crate::marks::{Mark, Place, Scope, mark_at, marks_by};
+use crate::order::order_of;
+use crate::search::last_at;
+use bl_num::NoMemory;
+use std::alloc::Global;
+use std::marker::Model;
+
+/// Which nodes addresses name, group by group.
+#[derive(Debug, Drop)]
+pub struct Table {
+    // What addresses are compared with in each node.
+    marks: Vec<Mark>,
+    // The nodes by group, by address and by number.
+    nodes: Vec<u32>,
+    // The IDs by address and by number.
+    ids: Vec<u32>,
+}
+
+impl Model for Table {
+    ghost use Rattle.std.specs.Prelude.{List, map};
+    ghost use Rattle.bl_format.specs.Nodes.{Mark};
+    ghost use Rattle.bl_addresses.specs.Marks.{mark_of};
+    ghost use Rattle.bl_addresses.specs.Table.{IsTable};
+
+    ghost Value = { List Mark };
+
+    ghost view = { λ t. map mark_of t.marks.items };
+
+    ghost invariant = { λ t. IsTable t.marks.items t.nodes.items t.ids.items };
+}
+
+impl Table {
+    /// A table of nodes by their groups, their addresses and whether they are IDs.
+    pub fn new(
+        alloc: Global,
+        groups: &[u32],
+        addresses: &[u64],
+        ids: &[bool],
+    ) -> Result<Table, NoMemory>
+        requires addresses { length addresses.now ≡ length groups.now }
+        requires ids { length ids.now ≡ length groups.now }
+        requires few { length groups.now < 2 ^ 32 }
+        ensures { IfOk result (λ table. table ≡ marks_by groups.now addresses.now ids.now) }
+    {
+        let marks = marks_by(alloc, groups, addresses, ids)?;
+        let nodes = order_of(alloc, Scope::Group, &marks)?;
+        let ids = order_of(alloc, Scope::File, &marks)?;
+        Ok(Table { marks, nodes, ids })
+    }
+
+    /// The number of a node's group.
+    pub fn group_of(&self, node: u32) -> u32
+        requires { node < length self.now }
+        ensures { option_map (λ mark. mark.group) (slice_get self.now node) ≡ Some result }
+    {
+        self.marks[node as usize].group
+    }
+
+    /// The node that an address names in a group.
+    #[tactic(auto, unfolding(bl_format::specs::Nodes::target_of))]
+    pub fn resolve(&self, group: u32, address: u64) -> Option<u32>
+        ensures { result ≡ target_of self.now group address }
+    {
+        if address == 0 {
+            return None;
+        }
+        let place = Place {
+            part: group,
+            address,
+        };
+        match last_at(Scope::Group, &self.marks, &self.nodes, place) {
+            Some(node) => Some(node),
+            None => last_at(
+                Scope::File,
+                &self.marks,
+                &self.ids,
+                Place { part: 0, address },
+            ),
+        }
+    }
+}

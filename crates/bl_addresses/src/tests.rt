@@ -1,0 +1,51 @@
+use crate::Table;
+use bl_num::NoMemory;
+
+// Two groups behind group 0: a head that is an ID and its data, with an address that stands twice,
+// and a second head that is one, with data at an address of the first group.
+const GROUPS: [u32; 7] = [0, 1, 1, 1, 2, 2, 2];
+
+const ADDRESSES: [u64; 7] = [0x50, 0x10, 0x20, 0x20, 0x30, 0x20, 0x10];
+
+const IDS: [bool; 7] = [false, true, false, false, true, false, false];
+
+fn table(rt: &HostRuntime) -> Result<Table, NoMemory> {
+    Table::new(rt.alloc(), &GROUPS, &ADDRESSES, &IDS)
+}
+
+#[test]
+fn names_nodes(rt: HostRuntime) -> Result<(), NoMemory> {
+    let table = table(&rt)?;
+    for (group, address, want) in [
+        // Null, whatever the group.
+        (1, 0, None),
+        // One address in two groups.
+        (1, 0x10, Some(1)),
+        (2, 0x10, Some(6)),
+        // In two nodes of a group the last one.
+        (1, 0x20, Some(3)),
+        (2, 0x20, Some(5)),
+        // An ID of another group.
+        (0, 0x10, Some(1)),
+        (1, 0x30, Some(4)),
+        (9, 0x30, Some(4)),
+        // Another node of another group.
+        (0, 0x20, None),
+        (1, 0x50, None),
+        // Not an address of a node.
+        (1, 0x15, None),
+        (2, 0xffff_ffff_ffff_ffff, None),
+    ] {
+        assert_eq!(rt; table.resolve(group, address), want);
+    }
+    Ok(())
+}
+
+#[test]
+fn gives_groups(rt: HostRuntime) -> Result<(), NoMemory> {
+    let table = table(&rt)?;
+    for (node, want) in [(0, 0), (1, 1), (3, 1), (4, 2), (6, 2)] {
+        assert_eq!(rt; table.group_of(node), want);
+    }
+    Ok(())
+}
