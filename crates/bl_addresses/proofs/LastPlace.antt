@@ -1,7 +1,5 @@
 -- When an element is the last one that passes.
-use Rattle.std.proofs.Common.{◌≡◌, ◌<◌, ℕ, zero, suc, ◌+◌, Bool, true, false, List, [], ◌∷◌, length, get_or, map, Option, Some, None, refl, ap, ◌∙◌, arith}
-use Rattle.std.specs.Prelude.{if◌then◌else◌}
-use Rattle.std.specs.Option.{option_or}
+use Rattle.std.proofs.Common.{◌≡◌, ◌<◌, ℕ, zero, suc, ◌+◌, Bool, true, false, List, [], ◌∷◌, length, get_or, map, Some, None, refl, ap, ◌∙◌, arith}
 use Rattle.bl_format.specs.Words.{last_from, last_place}
 
 pub last_from-none : {X : Type 0} (p : X → Bool) (i : ℕ) (xs : List X)

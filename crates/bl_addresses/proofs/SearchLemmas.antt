@@ -1,5 +1,5 @@
 -- What stands at the end of the nodes up to a place.
-use Rattle.std.proofs.Common.{◌≡◌, ◌<◌, ◌≤◌, ◌⊎◌, inl, inr, ℕ, ◌-◌, ◌∙◌, sym, refl, ap, subst, Bool, true, false, List, length, get_or, take, Some, None, arith}
+use Rattle.std.proofs.Common.{◌≡◌, ◌<◌, ◌≤◌, inl, inr, ℕ, ◌-◌, ◌∙◌, sym, refl, subst, Bool, true, false, List, length, get_or, take, Some, None, arith}
 use Rattle.std.specs.Prelude.{◌&&◌}
 use Rattle.std.specs.List.Sorted.{IsPartitionPoint}
 use Rattle.std.proofs.lemmas.Bool.{cases_lt}

@@ -1,6 +1,6 @@
 -- The target of an address by what is found in a scope.
 use Rattle.std.proofs.Common.{◌≡◌, ℕ, Bool, true, false, List, map, Option, Some, None, refl, sym, ◌∙◌, ap, eqb-true}
-use Rattle.std.specs.Prelude.{◌==◌, ◌&&◌, if◌then◌else◌}
+use Rattle.std.specs.Prelude.{◌==◌, ◌&&◌}
 use Rattle.std.specs.Option.{option_or}
 use Rattle.bl_format.specs.Nodes as nodes
 use Rattle.bl_format.specs.Nodes.{target_of}

@@ -45,7 +45,9 @@ pub fn marks_by(
 ) -> Result<Vec<Mark>, NoMemory>
     requires addresses { length addresses.now ≡ length groups.now }
     requires ids { length ids.now ≡ length groups.now }
-    ensures { IfOk result (λ marks. map mark_of marks.items ≡ marks_by groups.now addresses.now ids.now) }
+    ensures marks { IfOk result (λ marks.
+        map mark_of marks.items ≡ marks_by groups.now addresses.now ids.now) }
+    ensures len { IfOk result (λ marks. length marks.items ≡ length groups.now) }
 {
     let mut marks = Vec::with_capacity(alloc, groups.len())?;
     for (n, group) in groups.iter().enumerate() {

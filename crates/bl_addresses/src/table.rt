@@ -9,7 +9,8 @@ use bl_num::NoMemory;
 use std::alloc::Global;
 use std::marker::Model;
 
-/// Which nodes addresses name, group by group.
+/// Which nodes addresses name, group by group. It is searched and not hashed: a file chooses its
+/// addresses, and could choose such that collide. It takes 24 bytes a node.
 #[derive(Debug, Drop)]
 pub struct Table {
     // What addresses are compared with in each node.
@@ -44,7 +45,8 @@ impl Table {
         requires addresses { length addresses.now ≡ length groups.now }
         requires ids { length ids.now ≡ length groups.now }
         requires few { length groups.now < 2 ^ 32 }
-        ensures { IfOk result (λ table. table ≡ marks_by groups.now addresses.now ids.now) }
+        ensures marks { IfOk result (λ table. table ≡ marks_by groups.now addresses.now ids.now) }
+        ensures len { IfOk result (λ table. length table ≡ length groups.now) }
     {
         let marks = marks_by(alloc, groups, addresses, ids)?;
         let nodes = order_of(alloc, Scope::Group, &marks)?;

@@ -1,7 +1,7 @@
 use Rattle.std.proofs.Common.{◌≡◌, ◌+◌, ◌++◌, List, drop, map, get_or, false, refl, sym, subst}
 use Rattle.bl_addresses.specs.declared.marks.Mark.{Mark}
 use Rattle.bl_addresses.specs.Marks.{marks_by, mark_of}
-use Rattle.bl_addresses.proofs.MarkLemmas.{marks_by-push, marks_by-end}
+use Rattle.bl_addresses.proofs.MarkLemmas.{length-marks, marks_by-push, marks_by-end}
 use Rattle.bl_addresses.proofs.marks.marks_by.Goals as goal
 
 pub loop-n-preserved : goal.loop-n-preserved
@@ -15,7 +15,12 @@ loop-n-preserved c =
     subst (λ (ms : List Mark). map mark_of ms ++ marks_by (drop (n + 1) gs) (drop (n + 1) as') (drop (n + 1) ids) ≡ marks_by gs as' ids)
     (sym c.in_ok-push.ensures.items) more
 
-pub returns : goal.returns
-returns c =
+pub returns-clause-marks : goal.returns-clause-marks
+returns-clause-marks c =
     marks_by-end c.args.groups.now c.args.addresses.now c.args.ids.now c.loop-n.marks.items c.loop-n.n c.loop-n-test.false
     c.requires.addresses c.requires.ids c.loop-n.invariant
+
+pub returns-clause-len : goal.returns-clause-len
+returns-clause-len c =
+    length-marks c.args.groups.now c.args.addresses.now c.args.ids.now c.loop-n.marks.items c.requires.addresses c.requires.ids
+    (returns-clause-marks c)
