@@ -19,7 +19,8 @@ pub last_from-some : {X : Type 0} (p : X → Bool) (i : ℕ) (xs : List X) (k : 
     → last_from p i xs ≡ Some (i + k)
 last_from-some p i [] k lt here after = absurd (omega arith)
 last_from-some p i (x ∷ xs) zero lt here after =
-    let rest : last_from p (suc i) xs ≡ None = last_from-none p (suc i) xs (λ k d less. after (suc k) d (omega arith) (omega arith)) in
+    let rest : last_from p (suc i) xs ≡ None =
+    last_from-none p (suc i) xs (λ k d less. after (suc k) d (omega arith) (omega arith)) in
     let at : i ≡ i + 0 = omega arith in
     rw (rest, here x) (ap (λ n. Some n) at)
 last_from-some p i (x ∷ xs) (suc k) lt here after =

@@ -23,7 +23,8 @@ pub length-marks : (groups addresses : List ℕ) (ids : List Bool) (ms : List Ma
     → length addresses ≡ length groups → length ids ≡ length groups
     → map mark_of ms ≡ marks_by groups addresses ids → length ms ≡ length groups
 length-marks groups addresses ids ms a b e =
-    sym (length-map ms mark_of) ∙ ap (λ (ns : List nodes.Mark). length ns) e ∙ length-marks_by groups addresses ids a b
+    sym (length-map ms mark_of) ∙ ap (λ (ns : List nodes.Mark). length ns) e
+    ∙ length-marks_by groups addresses ids a b
 
 -- the marks of nodes whose groups, addresses and IDs are given by functions
 pub marks_by-map : {X : Type 0} (group address : X → ℕ) (is_an_id : X → Bool) (xs : List X)
@@ -48,17 +49,27 @@ marks_by-drop : (groups addresses : List ℕ) (ids : List Bool) (n g a : ℕ) (i
 unfolding marks_by
 marks_by-drop groups addresses ids n g a i lt many all =
     let next : n + 1 ≡ suc n = omega arith in
-    rw (drop-cons groups n g lt, drop-cons addresses n a (omega (arith, many, lt)), drop-cons ids n i (omega (arith, all, lt)), next) refl
+    rw (
+      drop-cons groups n g lt,
+      drop-cons addresses n a (omega (arith, many, lt)),
+      drop-cons ids n i (omega (arith, all, lt)),
+      next,
+    ) refl
+
+-- the marks of the nodes before node n
+abbrev pub HasMarks : List ℕ → List ℕ → List Bool → ℕ → List Mark → Type 0
+HasMarks groups addresses ids n ms =
+    map mark_of ms ++ marks_by (drop n groups) (drop n addresses) (drop n ids) ≡ marks_by groups addresses ids
 
 -- one node more
 pub marks_by-push : (groups addresses : List ℕ) (ids : List Bool) (ms : List Mark) (m : Mark) (n g a : ℕ) (i : Bool)
     → n < length groups → length addresses ≡ length groups → length ids ≡ length groups
     → m.group ≡ get_or groups n g → m.address ≡ get_or addresses n a → m.is_an_id ≡ get_or ids n i
-    → map mark_of ms ++ marks_by (drop n groups) (drop n addresses) (drop n ids) ≡ marks_by groups addresses ids
-    → map mark_of (ms ++ m ∷ []) ++ marks_by (drop (n + 1) groups) (drop (n + 1) addresses) (drop (n + 1) ids) ≡ marks_by groups addresses ids
+    → HasMarks groups addresses ids n ms → HasMarks groups addresses ids (n + 1) (ms ++ m ∷ [])
 marks_by-push groups addresses ids ms m n g a i lt many all x y z so_far =
     let rest = marks_by (drop (n + 1) groups) (drop (n + 1) addresses) (drop (n + 1) ids) in
-    let own : nodes.Mark = record { group = get_or groups n g; address = get_or addresses n a; is_an_id = get_or ids n i } in
+    let own : nodes.Mark =
+    record { group = get_or groups n g; address = get_or addresses n a; is_an_id = get_or ids n i } in
     let same : mark_of m ≡ own = λ j. record { group = x j; address = y j; is_an_id = z j } in
     ap (λ zs. zs ++ rest) (map-push mark_of ms m)
     ∙ append_assoc (map mark_of ms) (mark_of m ∷ []) rest
@@ -73,9 +84,13 @@ nothing = refl
 -- no node is left
 pub marks_by-end : (groups addresses : List ℕ) (ids : List Bool) (ms : List Mark) (n : ℕ)
     → length groups ≤ n → length addresses ≡ length groups → length ids ≡ length groups
-    → map mark_of ms ++ marks_by (drop n groups) (drop n addresses) (drop n ids) ≡ marks_by groups addresses ids
+    → HasMarks groups addresses ids n ms
     → map mark_of ms ≡ marks_by groups addresses ids
 marks_by-end groups addresses ids ms n le many all so_far =
     let none : marks_by (drop n groups) (drop n addresses) (drop n ids) ≡ [] =
-    rw (drop_all n groups le, drop_all n addresses (omega (arith, many, le)), drop_all n ids (omega (arith, all, le))) nothing in
+    rw (
+      drop_all n groups le,
+      drop_all n addresses (omega (arith, many, le)),
+      drop_all n ids (omega (arith, all, le)),
+    ) nothing in
     sym (append-nil (map mark_of ms)) ∙ ap (λ zs. map mark_of ms ++ zs) (sym none) ∙ so_far

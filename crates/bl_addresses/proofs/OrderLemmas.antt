@@ -1,5 +1,5 @@
 -- Which numbers a scope's order has, and how they are sorted.
-use Rattle.std.proofs.Common.{◌≡◌, ◌<◌, ◌≤◌, inl, inr, ℕ, ◌∙◌, List, length, get_or, arith}
+use Rattle.std.proofs.Common.{◌<◌, ◌≤◌, inl, inr, ℕ, ◌∙◌, List, length, get_or, arith}
 use Rattle.std.specs.Prelude.{All, Contains}
 use Rattle.std.specs.Ordering.{is_lt}
 use Rattle.std.specs.List.Sorted.{IsPartitionedBy}
@@ -23,10 +23,14 @@ place_at scope marks n = place_in scope (mark_at marks n)
 -- of two nodes in order the first is no later
 pub in_order : (scope : Scope) (marks : List Mark) (order : List ℕ) → IsOrder scope marks order
     → (i j d : ℕ) → i ≤ j → j < length order
-    → IsNoLater (place_at scope marks (get_or order i d)) (get_or order i d) (place_at scope marks (get_or order j d)) (get_or order j d)
+    → IsNoLater (place_at scope marks (get_or order i d)) (get_or order i d)
+    (place_at scope marks (get_or order j d)) (get_or order j d)
 in_order scope marks order o i j d le lt =
-    no_later (place_at scope marks (get_or order i d)) (place_at scope marks (get_or order j d)) (get_or order i d) (get_or order j d)
-    (sorted_far (λ x y. is_lt (key_cmp (key scope marks x) (key scope marks y))) (ranks_by key_total (key scope marks)) order o.sorted i j d le lt)
+    let m = get_or order i d in
+    let n = get_or order j d in
+    no_later (place_at scope marks m) (place_at scope marks n) m n
+    (sorted_far (λ x y. is_lt (key_cmp (key scope marks x) (key scope marks y))) (ranks_by key_total (key scope marks))
+    order o.sorted i j d le lt)
 
 -- what is no later than a place up to a bound is up to it
 earlier : (bound p q : Place) (m n : ℕ) → IsNoLater p m q n → IsUpTo bound q → IsUpTo bound p
@@ -48,6 +52,9 @@ earlier bound p q m n no_later up = elim no_later [
 pub order_splits : (scope : Scope) (marks : List Mark) (order : List ℕ) (place : Place) → IsOrder scope marks order
     → IsPartitionedBy (λ n. is_up_to place (place_in scope (mark_at marks n))) order
 order_splits scope marks order place o i j d le lt up =
-    let p = place_at scope marks (get_or order i d) in
-    let q = place_at scope marks (get_or order j d) in
-    up_to_from place p (earlier place p q (get_or order i d) (get_or order j d) (in_order scope marks order o i j d le lt) (up_to_means place q up))
+    let m = get_or order i d in
+    let n = get_or order j d in
+    let p = place_at scope marks m in
+    let q = place_at scope marks n in
+    let no_later = in_order scope marks order o i j d le lt in
+    up_to_from place p (earlier place p q m n no_later (up_to_means place q up))

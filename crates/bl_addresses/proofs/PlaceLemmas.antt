@@ -10,7 +10,9 @@ use Rattle.bl_addresses.specs.Marks.{is_up_to, is_at}
 use Rattle.bl_addresses.specs.Order.{key_cmp}
 
 pub key_total : IsTotalOrder key_cmp
-key_total = then_total (then_total (on_total (λ t. t.0) nat_cmp_total) (on_total (λ t. t.1) nat_cmp_total)) (on_total (λ t. t.2) nat_cmp_total)
+key_total =
+    then_total (then_total (on_total (λ t. t.0) nat_cmp_total) (on_total (λ t. t.1) nat_cmp_total))
+    (on_total (λ t. t.2) nat_cmp_total)
 
 -- where a comparison by three parts isn't less
 not_less : (o p q : Ordering) → is_lt (ordering_then (ordering_then o p) q) ≡ false

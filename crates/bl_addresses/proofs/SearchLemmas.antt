@@ -17,7 +17,8 @@ use Rattle.bl_addresses.proofs.LastPlace.{last_place-none, last_place-some}
 -- the nodes up to a place end there
 abbrev pub EndsAt : Scope → List Mark → List ℕ → Place → ℕ → Type 0
 EndsAt scope marks order place end =
-    IsPartitionPoint (λ n. is_up_to place (place_in scope (mark_at marks n)) ≡ true) (λ n. is_up_to place (place_in scope (mark_at marks n)) ≡ false) order end
+    IsPartitionPoint (λ n. is_up_to place (place_in scope (mark_at marks n)) ≡ true)
+    (λ n. is_up_to place (place_in scope (mark_at marks n)) ≡ false) order end
 
 -- where no node stands before the end
 pub no_end : (order : List ℕ) (end : ℕ) → end ≤ length order → length (take end order) ≤ 0 → end ≡ 0
@@ -62,7 +63,8 @@ found_before scope marks order place end o ends n lt found =
     let is : get_or order j n ≡ n = has.2 in
     let at = at_means place (place_at scope marks n) parts.1 in
     let address = at.1 in
-    let up : is_up_to place (place_at scope marks n) ≡ true = up_to_from place (place_at scope marks n) (inr (at.0, omega (arith, address))) in
+    let up : is_up_to place (place_at scope marks n) ≡ true =
+    up_to_from place (place_at scope marks n) (inr (at.0, omega (arith, address))) in
     elim (cases_lt j end) [
       | inl before ↦ record { at = j; before = before; inside = inside; is = is }
       | inr le ↦ (let down : is_up_to place (place_at scope marks n) ≡ false =
@@ -92,7 +94,8 @@ found_no_later scope marks order place end last o ends some bound is n lt found 
     let le : before.at ≤ end - 1 = omega (arith, less, some) in
     let far : end - 1 < length order = omega (arith, some, bound) in
     let same : get_or order (end - 1) n ≡ last = get_or_default order (end - 1) n last far ∙ is in
-    let first = subst (λ m. IsNoLater (place_at scope marks m) m (place_at scope marks (get_or order (end - 1) n)) (get_or order (end - 1) n))
+    let far_n = get_or order (end - 1) n in
+    let first = subst (λ m. IsNoLater (place_at scope marks m) m (place_at scope marks far_n) far_n)
     before.is (in_order scope marks order o before.at (end - 1) n le far) in
     subst (λ m. IsNoLater (place_at scope marks n) n (place_at scope marks m) m) same first
 
@@ -120,7 +123,9 @@ last_found scope marks order place end last o ends some bound is at =
     member = subst (λ m. IsMember scope marks m) is (o.members.inside (end - 1) last (omega (arith, some, bound)))
 
     here : (d : Mark) → is_found scope place (get_or marks last d) ≡ true
-    here d = rw (get_or_default marks last d (record { group = 0; address = 0; is_an_id = false }) member.0, member.1) at
+    here d =
+        let own : is_found scope place (mark_at marks last) ≡ true = rw member.1 at in
+        subst (λ m. is_found scope place m ≡ true) (get_or_default marks last _ d member.0) own
 
     after : (j : ℕ) (d : Mark) → last < j → j < length marks → is_found scope place (get_or marks j d) ≡ false
     after j d more lt = not_true (is_found scope place (get_or marks j d)) (λ found.
@@ -130,7 +135,8 @@ last_found scope marks order place end last o ends some bound is at =
         let parts = both (is_member scope (mark_at marks j)) (is_at place (place_at scope marks j)) found_at in
         let first = at_means place (place_at scope marks j) parts.1 in
         let second = at_means place (place_at scope marks last) at in
-        let le = number_le (place_at scope marks j) (place_at scope marks last) place j last no_later first.0 first.1 second.0 second.1 in
+        let le = number_le (place_at scope marks j) (place_at scope marks last) place j last no_later
+        first.0 first.1 second.0 second.1 in
         omega (arith, more, le))
 
 -- a place between a place and itself is that place
@@ -166,8 +172,10 @@ last_not_found scope marks order place end last o ends some bound is apart =
     let parts = both (is_member scope (mark_at marks n)) (is_at place (place_at scope marks n)) here in
     let first = at_means place (place_at scope marks n) parts.1 in
     let up : is_up_to place (place_at scope marks last) ≡ true =
-    subst (λ m. is_up_to place (place_at scope marks m) ≡ true) is (ends.0 (end - 1) last (omega arith) (omega (arith, some))) in
-    let same = squeezed (place_at scope marks n) (place_at scope marks last) place n last no_later first.0 first.1 (up_to_means place (place_at scope marks last) up) in
-    let at : is_at place (place_at scope marks last) ≡ true = at_from place (place_at scope marks last) same.0 same.1 in
+    subst (λ m. is_up_to place (place_at scope marks m) ≡ true) is
+    (ends.0 (end - 1) last (omega arith) (omega (arith, some))) in
+    let q = place_at scope marks last in
+    let same = squeezed (place_at scope marks n) q place n last no_later first.0 first.1 (up_to_means place q up) in
+    let at : is_at place q ≡ true = at_from place q same.0 same.1 in
     let clash : true ≡ false = sym at ∙ apart in
     absurd (cc)))

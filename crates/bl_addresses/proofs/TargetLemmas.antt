@@ -17,10 +17,18 @@ not_zero a other = go (a == 0) refl
     go true e = absurd (other (eqb-true a 0 e))
     go false e = e
 
+-- the last node of the group at the address
+abbrev found_in_group : List Mark → ℕ → ℕ → Option ℕ
+found_in_group marks group address = last_place (is_found Group (record { part = group; address = address })) marks
+
+-- the last ID of the file at the address
+abbrev found_in_file : List Mark → ℕ → Option ℕ
+found_in_file marks address = last_place (is_found File (record { part = 0; address = address })) marks
+
 -- an address that isn't 0 names what is found in the group, else in the file
 target_found : (marks : List Mark) (group address : ℕ) → (address ≡ 0 → ⊥)
     → target_of (map mark_of marks) group address
-    ≡ option_or (last_place (is_found Group (record { part = group; address = address })) marks) (last_place (is_found File (record { part = 0; address = address })) marks)
+    ≡ option_or (found_in_group marks group address) (found_in_file marks address)
 unfolding target_of
 target_found marks group address other =
     rw (
@@ -30,18 +38,23 @@ target_found marks group address other =
     ) refl
 
 -- a node of the group is the target
-pub target_in_group : (marks : List Mark) (seen : List nodes.Mark) (group address n : ℕ) → map mark_of marks ≡ seen → (address ≡ 0 → ⊥)
-    → Some n ≡ last_place (is_found Group (record { part = group; address = address })) marks
+pub target_in_group : (marks : List Mark) (seen : List nodes.Mark) (group address n : ℕ)
+    → map mark_of marks ≡ seen → (address ≡ 0 → ⊥)
+    → (items : List Mark) → items ≡ marks → Some n ≡ found_in_group items group address
     → Some n ≡ target_of seen group address
-target_in_group marks seen group address n view other found =
-    let file = last_place (is_found File (record { part = 0; address = address })) marks in
-    ap (λ o. option_or o file) found ∙ sym (target_found marks group address other) ∙ ap (λ ms. target_of ms group address) view
+target_in_group marks seen group address n view other items same found =
+    let here = found ∙ ap (λ (ms : List Mark). found_in_group ms group address) same in
+    ap (λ o. option_or o (found_in_file marks address)) here
+    ∙ sym (target_found marks group address other) ∙ ap (λ ms. target_of ms group address) view
 
 -- where the group has none, an ID is
-pub target_in_file : (marks : List Mark) (seen : List nodes.Mark) (group address : ℕ) (r : Option ℕ) → map mark_of marks ≡ seen → (address ≡ 0 → ⊥)
-    → None ≡ last_place (is_found Group (record { part = group; address = address })) marks
-    → r ≡ last_place (is_found File (record { part = 0; address = address })) marks
+pub target_in_file : (marks : List Mark) (seen : List nodes.Mark) (group address : ℕ) (r : Option ℕ)
+    → map mark_of marks ≡ seen → (address ≡ 0 → ⊥)
+    → (items : List Mark) → items ≡ marks → None ≡ found_in_group items group address
+    → (others : List Mark) → others ≡ marks → r ≡ found_in_file others address
     → r ≡ target_of seen group address
-target_in_file marks seen group address r view other none found =
-    let file = last_place (is_found File (record { part = 0; address = address })) marks in
-    found ∙ ap (λ o. option_or o file) none ∙ sym (target_found marks group address other) ∙ ap (λ ms. target_of ms group address) view
+target_in_file marks seen group address r view other items same none others also found =
+    let nowhere = none ∙ ap (λ (ms : List Mark). found_in_group ms group address) same in
+    found ∙ ap (λ (ms : List Mark). found_in_file ms address) also
+    ∙ ap (λ o. option_or o (found_in_file marks address)) nowhere
+    ∙ sym (target_found marks group address other) ∙ ap (λ ms. target_of ms group address) view

@@ -7,8 +7,8 @@ use std::alloc::Global;
 /// What an address is compared with in a node.
 #[derive(Clone, Copy, Debug)]
 pub struct Mark {
-    pub group: u32,
     pub address: u64,
+    pub group: u32,
     pub is_an_id: bool,
 }
 
@@ -31,8 +31,8 @@ pub struct Place {
 
 // The mark where there is no node.
 const BLANK: Mark = Mark {
-    group: 0,
     address: 0,
+    group: 0,
     is_an_id: false,
 };
 
@@ -52,8 +52,8 @@ pub fn marks_by(
     let mut marks = Vec::with_capacity(alloc, groups.len())?;
     for (n, group) in groups.iter().enumerate() {
         marks.push(Mark {
-            group: *group,
             address: addresses[n],
+            group: *group,
             is_an_id: ids[n],
         })?;
     }

@@ -12,5 +12,6 @@ returns c =
         inside = All-permutation (IsMember c.args.scope c.args.marks.now) _ _ moved c.requires.inside;
         whole = λ n m. Contains-permutation _ _ n moved (c.requires.whole n m);
       };
-      sorted = c.sort_unstable_by_key.ensures.sorted (key c.args.scope c.args.marks.now) (always_returns_same _ _ _ (λ a r f h. search rules));
+      sorted = c.sort_unstable_by_key.ensures.sorted (key c.args.scope c.args.marks.now)
+          (always_returns_same _ _ _ (λ a r f h. search rules));
     }

@@ -7,5 +7,6 @@ use Rattle.bl_addresses.proofs.search.end_of.Goals as goal
 pub returns-clause-split : goal.returns-clause-split
 returns-clause-split c =
     IsPartitionPoint-from_clause (λ n. is_up_to c.args.place (place_in c.args.scope (mark_at c.args.marks.now n))) _ _
-    c.partition_point.ensures.partitioned (order_splits c.args.scope c.args.marks.now c.args.order.now c.args.place c.requires)
+    c.partition_point.ensures.partitioned
+    (order_splits c.args.scope c.args.marks.now c.args.order.now c.args.place c.requires)
     (λ a r q k. search rules)
