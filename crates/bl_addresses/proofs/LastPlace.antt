@@ -2,6 +2,7 @@
 use Rattle.std.proofs.Common.{◌≡◌, ◌<◌, ℕ, zero, suc, ◌+◌, Bool, true, false, List, [], ◌∷◌, length, get_or, map, Some, None, refl, ap, ◌∙◌, arith}
 use Rattle.bl_format.specs.Words.{last_from, last_place}
 
+-- no element passes, where the first stands at place i
 pub last_from-none : {X : Type 0} (p : X → Bool) (i : ℕ) (xs : List X)
     → ((k : ℕ) (d : X) → k < length xs → p (get_or xs k d) ≡ false) → last_from p i xs ≡ None
 last_from-none p i [] h = refl
@@ -14,6 +15,7 @@ pub last_place-none : {X : Type 0} (p : X → Bool) (xs : List X)
     → ((k : ℕ) (d : X) → k < length xs → p (get_or xs k d) ≡ false) → last_place p xs ≡ None
 last_place-none p xs h = last_from-none p 0 xs h
 
+-- element k passes, and none after it, where the first stands at place i
 pub last_from-some : {X : Type 0} (p : X → Bool) (i : ℕ) (xs : List X) (k : ℕ) → k < length xs
     → ((d : X) → p (get_or xs k d) ≡ true) → ((j : ℕ) (d : X) → k < j → j < length xs → p (get_or xs j d) ≡ false)
     → last_from p i xs ≡ Some (i + k)
@@ -37,6 +39,7 @@ last_place-some p xs k lt here after =
     let at : 0 + k ≡ k = omega arith in
     last_from-some p 0 xs k lt here after ∙ ap (λ n. Some n) at
 
+-- the same of images, where the first stands at place i
 pub last_from-map : {A B : Type 0} (p : B → Bool) (f : A → B) (i : ℕ) (xs : List A)
     → last_from p i (map f xs) ≡ last_from (λ x. p (f x)) i xs
 last_from-map p f i [] = refl

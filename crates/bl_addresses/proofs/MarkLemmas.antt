@@ -1,6 +1,8 @@
 -- The marks of nodes, one for each.
 use Rattle.std.proofs.Common.{◌≡◌, ◌<◌, ◌≤◌, ℕ, suc, ◌+◌, Bool, List, [], ◌∷◌, ◌++◌, length, get_or, drop, map, refl, sym, ◌∙◌, ap, append_assoc, arith, drop-cons}
 use Rattle.std.proofs.lemmas.List.{append-nil, drop_all, length-map}
+use Rattle.std.specs.List.{enumerate_from}
+use Rattle.bl_format.specs.declared.file.Head.{Head}
 use Rattle.bl_format.specs.Nodes as nodes
 use Rattle.bl_addresses.specs.declared.marks.Mark.{Mark}
 use Rattle.bl_addresses.specs.Marks.{marks_by, mark_of}
@@ -36,6 +38,18 @@ marks_by-map group address is_an_id (x ∷ xs) =
     let own : nodes.Mark = record { group = group x; address = address x; is_an_id = is_an_id x } in
     ap (λ ms. own ∷ ms) (marks_by-map group address is_an_id xs)
 
+-- what the nodes of a file give are the file's marks
+pub marks_by-marks : (f : nodes.File)
+    → marks_by (map (λ p. nodes.group_of (map (λ (x : Head). x.code) f.nodes) p.0) (enumerate_from 0 f.nodes))
+    (map (λ p. p.1.address) (enumerate_from 0 f.nodes))
+    (map (λ p. nodes.is_id f.catalogue p.1.code p.1.count p.1.index) (enumerate_from 0 f.nodes))
+    ≡ nodes.marks f
+unfolding nodes.marks
+marks_by-marks f =
+    marks_by-map (λ p. nodes.group_of (map (λ (x : Head). x.code) f.nodes) p.0) (λ p. p.1.address)
+    (λ p. nodes.is_id f.catalogue p.1.code p.1.count p.1.index) (enumerate_from 0 f.nodes)
+
+-- the image of a list with one element more
 map-push : {A B : Type 0} (f : A → B) (xs : List A) (x : A) → map f (xs ++ x ∷ []) ≡ map f xs ++ f x ∷ []
 map-push f [] x = refl
 map-push f (y ∷ ys) x = ap (λ zs. f y ∷ zs) (map-push f ys x)
@@ -77,6 +91,7 @@ marks_by-push groups addresses ids ms m n g a i lt many all x y z so_far =
     ∙ ap (λ zs. map mark_of ms ++ zs) (sym (marks_by-drop groups addresses ids n g a i lt many all))
     ∙ so_far
 
+-- of no nodes there are no marks
 nothing : marks_by [] [] [] ≡ []
 unfolding marks_by
 nothing = refl

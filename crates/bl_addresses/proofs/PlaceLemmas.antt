@@ -9,6 +9,7 @@ use Rattle.bl_addresses.specs.declared.marks.Place.{Place}
 use Rattle.bl_addresses.specs.Marks.{is_up_to, is_at}
 use Rattle.bl_addresses.specs.Order.{key_cmp}
 
+-- keys are compared by a total order
 pub key_total : IsTotalOrder key_cmp
 key_total =
     then_total (then_total (on_total (λ t. t.0) nat_cmp_total) (on_total (λ t. t.1) nat_cmp_total))
@@ -23,6 +24,7 @@ not_less Equal Equal q e = inr (refl, inr (refl, e))
 not_less Equal Greater q e = inr (refl, inl refl)
 not_less Greater p q e = inl refl
 
+-- what comparisons of numbers say
 cmp_greater : (x y : ℕ) → nat_cmp x y ≡ Greater → y < x
 cmp_greater x y e = subst (λ o. MatchOrdering o (x < y) (x ≡ y) (y < x)) e (ranked x y (nat_cmp x y) refl)
 
@@ -42,6 +44,7 @@ abbrev pub IsNoLater : Place → ℕ → Place → ℕ → Type 0
 IsNoLater p m q n =
     (p.part < q.part) ⊎ ((p.part ≡ q.part) × ((p.address < q.address) ⊎ ((p.address ≡ q.address) × (m ≤ n))))
 
+-- of two keys the one that isn't less comes no earlier
 pub no_later : (p q : Place) (m n : ℕ)
     → is_lt (key_cmp (q.part, q.address, n) (p.part, p.address, m)) ≡ false → IsNoLater p m q n
 no_later p q m n e = elim (not_less (nat_cmp q.part p.part) (nat_cmp q.address p.address) (nat_cmp n m) e) [
@@ -56,6 +59,7 @@ no_later p q m n e = elim (not_less (nat_cmp q.part p.part) (nat_cmp q.address p
 abbrev pub IsUpTo : Place → Place → Type 0
 IsUpTo bound p = (p.part < bound.part) ⊎ ((p.part ≡ bound.part) × (p.address ≤ bound.address))
 
+-- what the tests of places mean
 pub up_to_means : (bound p : Place) → is_up_to bound p ≡ true → IsUpTo bound p
 up_to_means bound p e = grind (arith)
 

@@ -35,11 +35,13 @@ end_at order end last bound some is =
     rw len (get_or-take end order (end - 1) last (omega (arith, more))) in
     (more, sym same ∙ sym is)
 
+-- both parts of a test pass
 both : (a b : Bool) → (a && b) ≡ true → (a ≡ true) × (b ≡ true)
 both true true e = (refl, refl)
 both true false e = absurd (cc)
 both false b e = absurd (cc)
 
+-- a test that can't pass fails
 not_true : (b : Bool) → (b ≡ true → ⊥) → b ≡ false
 not_true true never = absurd (never refl)
 not_true false never = refl

@@ -10,6 +10,7 @@ use Rattle.bl_addresses.specs.declared.marks.Scope.TheVariants.{Group, File}
 use Rattle.bl_addresses.specs.Marks.{mark_of, is_found}
 use Rattle.bl_addresses.proofs.LastPlace.{last_place-map}
 
+-- a number other than 0 fails the test for it
 not_zero : (a : ℕ) → (a ≡ 0 → ⊥) → (a == 0) ≡ false
 not_zero a other = go (a == 0) refl
   where

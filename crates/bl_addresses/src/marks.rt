@@ -1,4 +1,4 @@
-ghost use Rattle.std.specs.Prelude.{◌≡◌, ◌<◌, IfOk, length, map};
+ghost use Rattle.std.specs.Prelude.{◌≡◌, IfOk, length, map};
 ghost use Rattle.bl_addresses.specs.Marks.{mark_of, marks_by, mark_at, is_member, place_in};
 
 use bl_num::NoMemory;

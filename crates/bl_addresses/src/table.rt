@@ -1,16 +1,17 @@
-ghost use Rattle.std.specs.Prelude.{◌≡◌, ◌≤◌, ◌<◌, ◌^◌, ℕ, IfOk, length, slice_index, slice_get, option_map, Some};
+ghost use Rattle.std.specs.Prelude.{◌≡◌, ◌<◌, ◌^◌, IfOk, length, slice_get, option_map, Some};
 ghost use Rattle.bl_format.specs.Nodes.{target_of};
 ghost use Rattle.bl_addresses.specs.Marks.{marks_by};
 
-use crate::marks::{Mark, Place, Scope, mark_at, marks_by};
+use crate::marks::{Mark, Place, Scope, marks_by};
 use crate::order::order_of;
 use crate::search::last_at;
 use bl_num::NoMemory;
 use std::alloc::Global;
 use std::marker::Model;
 
-/// Which nodes addresses name, group by group. It is searched and not hashed: a file chooses its
-/// addresses, and could choose such that collide. It takes 24 bytes a node.
+/// Which nodes addresses name, group by group. Addresses are searched in sorted lists: a file
+/// chooses its addresses, and in a hashed table it could choose ones that collide. A node takes 24
+/// bytes.
 #[derive(Debug, Drop)]
 pub struct Table {
     // What addresses are compared with in each node.
