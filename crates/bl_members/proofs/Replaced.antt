@@ -20,7 +20,8 @@ pieces_disjoint at size zero zero differ = absurd (differ refl)
 pieces_disjoint at size zero (suc k) differ = inl (omega arith)
 pieces_disjoint at size (suc j) zero differ = inr (omega arith)
 pieces_disjoint at size (suc j) (suc k) differ =
-    elim (pieces_disjoint (at + size) size j k (λ same. differ (ap suc same))) [ inl h ↦ inl (omega (arith, h)) | inr h ↦ inr (omega (arith, h)) ]
+    elim (pieces_disjoint (at + size) size j k (λ same. differ (ap suc same)))
+    [ inl h ↦ inl (omega (arith, h)) | inr h ↦ inr (omega (arith, h)) ]
 
 -- two elements of a leaf have no bytes in common
 pub elements-disjoint : (x : Leaf) (j k : ℕ) → j ≢ k → AreDisjoint (element_place x j) x.size (element_place x k) x.size
@@ -43,19 +44,22 @@ part_before : (at : ℕ) (new xs : List ℕ) (from n : ℕ) → at + length new 
 part_before at new xs from n room le =
     let len : length (take at xs) ≡ at = length-take-le at xs (omega arith) in
     let rest : List ℕ = new ++ drop (at + length new) xs in
-    sym (drop-take from n (replaced_at at new xs)) ∙ ap (drop from) (take-append-le (from + n) (take at xs) rest (omega (arith, len, le)) ∙ take-take (from + n) at xs le)
+    sym (drop-take from n (replaced_at at new xs))
+    ∙ ap (drop from) (take-append-le (from + n) (take at xs) rest (omega (arith, len, le)) ∙ take-take (from + n) at xs le)
     ∙ drop-take from n xs
 
 part_behind : (at : ℕ) (new xs : List ℕ) (from n : ℕ) → at + length new ≤ length xs → at + length new ≤ from
     → part (replaced_at at new xs) from n ≡ part xs from n
 part_behind at new xs from n room le =
     let taken : length (take at xs) ≡ at = length-take-le at xs (omega arith) in
-    let len : length (take at xs ++ new) ≡ at + length new = length-append (take at xs) new ∙ ap (λ (m : ℕ). m + length new) taken in
+    let len : length (take at xs ++ new) ≡ at + length new =
+    length-append (take at xs) new ∙ ap (λ (m : ℕ). m + length new) taken in
     ap (λ (ys : List ℕ). take n (drop from ys)) (sym (append_assoc (take at xs) new (drop (at + length new) xs)))
     ∙ ap (take n) (drop-append-drop (at + length new) xs (take at xs ++ new) from le len)
 
 -- what has nothing in common with the part that was replaced is as before
-pub part-replaced_at : (at : ℕ) (new xs : List ℕ) (from n : ℕ) → at + length new ≤ length xs → AreDisjoint from n at (length new)
+pub part-replaced_at : (at : ℕ) (new xs : List ℕ) (from n : ℕ)
+    → at + length new ≤ length xs → AreDisjoint from n at (length new)
     → part (replaced_at at new xs) from n ≡ part xs from n
 part-replaced_at at new xs from n room apart =
     elim apart [ inl h ↦ part_before at new xs from n room h | inr h ↦ part_behind at new xs from n room h ]

@@ -1,6 +1,6 @@
 -- How the elements of a leaf stand in the bytes of an element of its struct, and what a write of one leaves. This
 -- project's own, over the structs of Blender's SDNA.
-use Rattle.std.specs.Prelude.{◌≡◌, ◌≤◌, ◌⊎◌, ℕ, ◌+◌, ◌*◌, List, [], ◌++◌, length, take, drop}
+use Rattle.std.specs.Prelude.{◌≤◌, ◌⊎◌, ℕ, ◌+◌, ◌*◌, List, [], ◌++◌, length, take, drop}
 use Rattle.bl_num.specs.declared.number.Order.{Order}
 use Rattle.bl_num.specs.Numbers.{IsWholeLength, number_of, number_meant}
 use Rattle.bl_format.specs.declared.layout.Kind.{Kind}
