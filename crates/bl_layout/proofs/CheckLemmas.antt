@@ -29,7 +29,7 @@ length_test c s k = rw (basic_in-content_of c (struct_entry c s).type_number, ba
 -- the fault of a member by its checks
 pub member_fault-failed : (c : Catalogue) (w : Width) (s k : ℕ) (failed : Failed)
     → failed.name ≡ has_bad_name c s k → failed.identifier ≡ is_duplicate c s k → failed.length ≡ has_bad_length c s k
-    → failed.leads_back ≡ leads_back c s (inner_struct c s k) → failed.end ≡ overruns c w s k
+    → failed.leads_back ≡ leads_back c s (inner_struct c s k) → failed.overruns ≡ overruns c w s k
     → first_failed failed s k ≡ member_fault c w s k
 unfolding member_fault
 member_fault-failed c w s k failed name identifier long back end = rw (name, identifier, long, back, end) refl

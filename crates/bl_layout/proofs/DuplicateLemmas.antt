@@ -101,8 +101,9 @@ AreMarks-push numbers members mark marks k number is lt fresh m = record {
 -- the first member that is marked stood before
 pub AreMarks-found : (numbers : List ℕ) (members : List MemberEntry) (mark : ℕ) (marks : List ℕ) (k number : ℕ)
     → number ≡ number_of_member numbers members k → number < length marks → slice_index marks number ≡ mark
-    → AreMarks numbers members mark marks k → IsFirstDuplicate numbers members k
-AreMarks-found numbers members mark marks k number is lt marked m = record {
+    → AreMarks numbers members mark marks k → k < length members → IsFirstDuplicate numbers members k
+AreMarks-found numbers members mark marks k number is lt marked m small = record {
   before = m.none;
   at = λ inside. rw (← is) (sym (m.seen number lt) ∙ eq-eqb (slice_index marks number) mark marked);
+  within = omega arith;
 }

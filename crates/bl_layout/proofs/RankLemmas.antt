@@ -51,6 +51,7 @@ pub above_first : (c : Catalogue) (inner : List (Vec ℕ Global)) (ranks : List 
 above_first c inner ranks s are_inner are above = record {
   before = λ k lt. none k lt (inner_struct c s k) refl;
   at = λ lt. absurd (omega arith);
+  within = omega arith;
 }
   where
     none : (k : ℕ) → k < member_count c s → (o : Option ℕ) → inner_struct c s k ≡ o → leads_back c s o ≡ false

@@ -1,5 +1,5 @@
 -- The identifier that stood before, by the numbers of identifiers and by the identifiers themselves.
-use Rattle.std.proofs.Common.{◌≡◌, ℕ, zero, suc, ◌≤◌, ◌<◌, Bool, eqb, List, length, map, refl, sym, ◌∙◌, ap, arith, eq-eqb}
+use Rattle.std.proofs.Common.{◌≡◌, ℕ, zero, suc, ◌<◌, Bool, eqb, List, length, map, refl, sym, ◌∙◌, ap, arith, eq-eqb}
 use Rattle.std.specs.Prelude.{◌==◌, ◌||◌, slice_index}
 use Rattle.std.specs.List.{list_any}
 use Rattle.std.specs.Str.{bytes_eq}
@@ -62,11 +62,12 @@ stood_before-is_duplicate c ids s k is lt numbers small =
 -- the first member whose number stood before is the first whose identifier did
 pub first_repeat : (c : Catalogue) (ids : List ℕ) (members : List MemberEntry) (s n : ℕ)
     → IsCatalogue c → s < length c.structs → AreIdentifierNumbers (numbered c.names) ids → members ≡ (struct_entry c s).members
-    → n ≤ length members → IsFirstDuplicate ids members n → IsFirstRepeat c s n
-first_repeat c ids members s n is lt numbers same within first = record {
+    → IsFirstDuplicate ids members n → IsFirstRepeat c s n
+first_repeat c ids members s n is lt numbers same first = record {
   before = λ k less.
-      let small : k < member_count c s = omega (arith, ap length same) in
+      let small : k < member_count c s = omega (arith, first.within, ap length same) in
       sym (stood_before-is_duplicate c ids s k is lt numbers small) ∙ ap (λ (xs : List MemberEntry). stood_before ids xs k) (sym same) ∙ first.before k less;
   at = λ small.
       sym (stood_before-is_duplicate c ids s n is lt numbers small) ∙ ap (λ (xs : List MemberEntry). stood_before ids xs n) (sym same) ∙ first.at (omega (arith, ap length same));
+  within = omega (arith, first.within, ap length same);
 }

@@ -1,6 +1,6 @@
 -- Numbers that stand for the identifiers of names.
 use denote.Ref.{Bor}
-use Rattle.std.specs.Prelude.{◌≡◌, ◌==◌, ◌<◌, ℕ, Bool, true, false, if◌then◌else◌, map, List, [], length, slice_index, Option, Some}
+use Rattle.std.specs.Prelude.{◌≡◌, ◌==◌, ◌<◌, ℕ, Bool, if◌then◌else◌, map, List, [], length, slice_index, Option, Some}
 use Rattle.std.specs.BTreeMap.{BTreeMap, get_by}
 use Rattle.std.specs.Cmp.Lexicographic.{slice_cmp}
 use Rattle.std.specs.Ordering.{nat_cmp}
@@ -8,6 +8,7 @@ use Rattle.std.specs.List.{slice_index_or}
 use Rattle.std.specs.Str.{bytes_eq}
 use Rattle.bl_format.specs.Words.{contains, numbers_below}
 use Rattle.bl_format.specs.declared.catalogue.MemberEntry.{MemberEntry}
+use Rattle.bl_layout.specs.First.{IsFirst}
 use Rattle.bl_layout.specs.Names.{name_parts}
 
 -- the identifier of the name of a number
@@ -41,6 +42,5 @@ stood_before numbers members k =
     contains (map (number_of_member numbers members) (numbers_below k)) (number_of_member numbers members k)
 
 -- the first member whose identifier stood before, or how many members there are
-pub record IsFirstDuplicate (numbers : List ℕ) (members : List MemberEntry) (n : ℕ) : Type 0 where
-  pub before : (k : ℕ) → k < n → stood_before numbers members k ≡ false
-  pub at : n < length members → stood_before numbers members n ≡ true
+abbrev pub IsFirstDuplicate : List ℕ → List MemberEntry → ℕ → Type 0
+IsFirstDuplicate numbers members n = IsFirst (stood_before numbers members) (length members) n

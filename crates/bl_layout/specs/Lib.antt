@@ -1,5 +1,6 @@
 pub mod Names
 pub mod Basics
+pub mod First
 pub mod Identifiers
 pub mod Tables
 pub mod Sizes

@@ -63,7 +63,7 @@ pub fn member_fault(
         identifier: member.is_duplicate,
         length: has_bad_length(own_content, content, length, name.shape.pointer),
         leads_back: member.leads_back,
-        end: member.end > u64::from(own_length),
+        overruns: member.end > u64::from(own_length),
     };
     first_failed(failed, s, number)
 }
@@ -75,7 +75,7 @@ struct Failed {
     identifier: bool,
     length: bool,
     leads_back: bool,
-    end: bool,
+    overruns: bool,
 }
 
 fn first_failed(failed: Failed, s: u32, member: u32) -> Option<LayoutFault>
@@ -89,7 +89,7 @@ fn first_failed(failed: Failed, s: u32, member: u32) -> Option<LayoutFault>
         Some(LayoutFault::BasicLength { s, member })
     } else if failed.leads_back {
         Some(LayoutFault::Cyclic { s, member })
-    } else if failed.end {
+    } else if failed.overruns {
         Some(LayoutFault::Overrun { s, member })
     } else {
         None

@@ -15,7 +15,6 @@ pub fn first_duplicate(
     requires names { All (λ m. m.name_number < length identifiers.now) members.now }
     requires inside { All (λ n. n < length marks.old) identifiers.now }
     ensures first { IsFirstDuplicate identifiers.now members.now result }
-    ensures within { result ≤ length members.now }
     ensures marked { All (λ m. m ≤ mark) marks.new }
 {
     for (k, member) in members.iter().enumerate() {

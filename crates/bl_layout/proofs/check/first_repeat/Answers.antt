@@ -1,4 +1,4 @@
-use Rattle.std.proofs.Common.{subst, sym, List, length, arith}
+use Rattle.std.proofs.Common.{subst, sym, List, arith}
 use Rattle.std.specs.Prelude.{All}
 use Rattle.std.proofs.lemmas.List.{get_or_default}
 use Rattle.bl_format.specs.declared.catalogue.MemberEntry.{MemberEntry}
@@ -30,4 +30,4 @@ returns-clause-first c =
     let cat = c.args.catalogue.now in
     let members = members_same cat c.args.s c.as_slice.result.now c.index-as_slice-s.result c.as_slice-members.result.now c.requires.place c.as_slice.ensures c.as_slice-members.ensures in
     first_repeat cat c.args.identifiers.now c.as_slice-members.result.now c.args.s c.first_duplicate.result
-    c.requires.catalogue c.requires.place c.requires.identifiers members c.first_duplicate.ensures.within c.first_duplicate.ensures.first
+    c.requires.catalogue c.requires.place c.requires.identifiers members c.first_duplicate.ensures.first

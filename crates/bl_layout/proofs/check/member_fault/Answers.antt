@@ -46,5 +46,5 @@ returns c =
     ∙ ap (λ (xs : List TypeEntry). (get_or xs (struct_entry cat s).type_number c.index-types-own.result).length) c.as_slice-types.ensures
     ∙ ap (λ (x : TypeEntry). x.length) (get_or_default cat.types (struct_entry cat s).type_number c.index-types-own.result none (struct_fits cat s c.requires.catalogue c.requires.place).type_number) in
     let end : nat_lt c.from.result c.args.member.end ≡ overruns cat w s k = rw (own_length, c.requires.end) refl in
-    let failed : Failed = record { name = not c.name_of-name.result.is_good; identifier = c.args.member.is_duplicate; length = c.has_bad_length.result; leads_back = c.args.member.leads_back; end = nat_lt c.from.result c.args.member.end } in
+    let failed : Failed = record { name = not c.name_of-name.result.is_good; identifier = c.args.member.is_duplicate; length = c.has_bad_length.result; leads_back = c.args.member.leads_back; overruns = nat_lt c.from.result c.args.member.end } in
     c.first_failed.ensures ∙ member_fault-failed cat w s k failed name c.requires.duplicate long c.requires.back end

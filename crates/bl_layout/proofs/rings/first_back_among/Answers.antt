@@ -1,4 +1,4 @@
-use Rattle.std.proofs.Common.{◌∙◌, below_more, subst, Bool}
+use Rattle.std.proofs.Common.{◌∙◌, below_more, subst, Bool, length, ap, arith}
 use Rattle.std.specs.Bool.{OnFalse}
 use Rattle.bl_format.specs.declared.catalogue.MemberEntry.{MemberEntry}
 use Rattle.bl_layout.specs.Graph.{KeepsApart, links_of}
@@ -14,6 +14,7 @@ returns-then-branch c =
     record {
       before = c.loop-k.invariant.none;
       at = λ small. back_at cat c.args.s c.loop-k.k c.as_slice-members.result.now none c.in_ok-member_leads_back.field-0 members c.loop-k-test.true c.in_ok-member_leads_back.ensures.answer ∙ c.if-branch.true;
+      within = omega (arith, c.loop-k-test.true, ap length members);
     }
 
 pub loop-k-preserved : goal.loop-k-preserved
