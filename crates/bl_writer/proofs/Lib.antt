@@ -1,0 +1,5 @@
+pub mod ValuesKept
+pub mod Overlays
+pub mod LeafCopies
+pub mod LaidOutCopies
+pub mod LayoutLeaves

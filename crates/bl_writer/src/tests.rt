@@ -1,0 +1,66 @@
+ghost use Rattle.std.specs.Prelude.{◌==◌, if◌then◌else◌, Some, None};
+
+use crate::{Images, copy_element};
+use bl_format::LayoutFault;
+use bl_layout::Layout;
+use bl_num::{Order, Width};
+use bl_sdna::parse_catalogue;
+
+// A struct of two pointers, three bytes, a float, and a tail.
+const CATALOGUE: [u8; 92] =
+    *b"SDNANAME\x03\0\0\0*to[2]\0name[3]\0x\0\0\0\0TYPE\x03\0\0\0char\0float\0Node\0TLEN\x01\0\x04\0\
+        \x18\0\0\0STRC\x01\0\0\0\x02\0\x03\0\x02\0\0\0\0\0\x01\0\x01\0\x02\0";
+
+const STRUCT_LEN: usize = 24;
+
+// One address names the second node, and all others name nothing.
+struct OneName;
+
+impl Images for OneName {
+    ghost names = { λ _ address. if address == 0x4142 then Some 1 else None };
+
+    fn image(&self, address: u64) -> u64 {
+        if address == 0x4142 { 32 } else { 0 }
+    }
+}
+
+fn layout_of(rt: &HostRuntime, width: Width) -> Result<Layout, LayoutFault> {
+    match parse_catalogue(rt.alloc(), Order::Little, &CATALOGUE) {
+        Ok(catalogue) => Layout::new(rt.alloc(), &catalogue, width),
+        Err(_) => Err(LayoutFault::NoMemory),
+    }
+}
+
+// A copy of an element, where the layout has a struct of this length.
+fn copied(layout: &Layout, order: Order, src: &[u8; STRUCT_LEN]) -> Option<[u8; STRUCT_LEN]> {
+    if layout.struct_count() == 0 || layout.length(0) as usize != STRUCT_LEN {
+        return None;
+    }
+    let mut dst = [b'?'; STRUCT_LEN];
+    copy_element(layout, 0, order, src, &OneName, &mut dst);
+    Some(dst)
+}
+
+#[test]
+fn copies_eight_byte_pointers(rt: HostRuntime) -> Result<(), LayoutFault> {
+    let layout = layout_of(&rt, Width::Eight)?;
+    assert_eq!(rt;
+        copied(
+            &layout,
+            Order::Little,
+            b"\0\x01\0\0\0\0\0\0BA\0\0\0\0\0\0abcwxyz!"
+        ),
+        Some(*b"\0\0\0\0\0\0\0\0\x20\0\0\0\0\0\0\0abcwxyz\0")
+    );
+    Ok(())
+}
+
+#[test]
+fn copies_four_byte_pointers(rt: HostRuntime) -> Result<(), LayoutFault> {
+    let layout = layout_of(&rt, Width::Four)?;
+    assert_eq!(rt;
+        copied(&layout, Order::Big, b"\0\0AB\0\x01\0\0abcwxyz!!!!!!!!!"),
+        Some(*b"\0\0\0\x20\0\0\0\0abcwxyz\0\0\0\0\0\0\0\0\0")
+    );
+    Ok(())
+}
