@@ -1,0 +1,5 @@
+pub mod NameLemmas
+pub mod ListLemmas
+pub mod KeptLemmas
+pub mod WholeSelection
+pub mod NodesHaveIndex
