@@ -19,3 +19,11 @@ pub mod CellViews
 pub mod RawKinds
 pub mod SelectionFits
 pub mod RebuiltStands
+pub mod SameWidth
+pub mod OwnFormStructs
+pub mod OwnFormWays
+pub mod OwnFormCells
+pub mod OwnFormNames
+pub mod OwnFormGraph
+pub mod OwnFormLengths
+pub mod OwnForm

@@ -47,7 +47,7 @@ pub record NodeStands (f : File) (x : Head) : Type 0 where
   pub is_node : is_catalogue x ≡ false
   pub no_fault : node_fault f.catalogue x ≡ None
 
-each_of : (h : Header) (b : List ℕ) (at end : ℕ) (xs : List Head) → header_size h ≤ at → AreBlocks h b at xs end → All (IsBlockOf h b) xs
+pub each_of : (h : Header) (b : List ℕ) (at end : ℕ) (xs : List Head) → header_size h ≤ at → AreBlocks h b at xs end → All (IsBlockOf h b) xs
 each_of h b at end [] behind stand = All-nil (IsBlockOf h b)
 each_of h b at end (x ∷ xs) behind stand =
     All-cons (IsBlockOf h b) x xs (block_facts h b at x behind stand.0) (each_of h b (at + head_size h + x.len) end xs (omega (arith, behind)) stand.1)
@@ -102,12 +102,12 @@ is_zero_not : (n : ℕ) → (n == 0) ≡ false → n ≢ 0
 is_zero_not zero is same = absurd (cc)
 is_zero_not (suc n) is same = absurd (omega (arith, same))
 
-payload_len : (f : File) (x : Head) → NodeStands f x → length (payload f.header f.bytes x) ≡ x.len
+pub payload_len : (f : File) (x : Head) → NodeStands f x → length (payload f.header f.bytes x) ≡ x.len
 payload_len f x own =
     let fits = own.block.fits in
     length-take-le x.len (drop (x.at + head_size f.header) f.bytes) (omega (arith, fits, length-drop (x.at + head_size f.header) f.bytes))
 
-holds_elements : (f : File) (x : Head) → NodeStands f x → x.index ≢ 0 → HoldsElements f x
+pub holds_elements : (f : File) (x : Head) → NodeStands f x → x.index ≢ 0 → HoldsElements f x
 holds_elements f x own some =
     let enough : nat_lt x.len (x.count * struct_length f.catalogue x.index) ≡ false = third_passes (x.index == 0) (nat_le (length f.catalogue.structs) x.index) (nat_lt x.len (x.count * struct_length f.catalogue x.index)) (BadStruct x.at) (ShortBlock x.at) own.no_fault (not_zero_is x.index some) in
     let le : x.count * struct_length f.catalogue x.index ≤ x.len = ltb-false x.len (x.count * struct_length f.catalogue x.index) enough in

@@ -84,11 +84,11 @@ element_long bytes size count k within lt =
     length-take-le size (drop (k * size) bytes) (omega (arith, more, within, length-drop (k * size) bytes))
 
 -- the bytes of an element: as many as the struct has, each below 256
-record IsElement (size : ℕ) (bytes : List ℕ) : Type 0 where
-  long : length bytes ≡ size
-  below : All (λ b. b < 256) bytes
+pub record IsElement (size : ℕ) (bytes : List ℕ) : Type 0 where
+  pub long : length bytes ≡ size
+  pub below : All (λ b. b < 256) bytes
 
-node_elements-are : (f : File) (x : Head) → All (λ b. b < 256) f.bytes → HoldsElements f x → All (IsElement (struct_length f.catalogue x.index)) (node_elements f x)
+pub node_elements-are : (f : File) (x : Head) → All (λ b. b < 256) f.bytes → HoldsElements f x → All (IsElement (struct_length f.catalogue x.index)) (node_elements f x)
 node_elements-are f x all holds =
     let size : ℕ = struct_length f.catalogue x.index in
     let bytes : List ℕ = payload f.header f.bytes x in
@@ -103,11 +103,11 @@ node_elements-are f x all holds =
 -- ---- what they are carried to
 
 -- where nothing is overridden, nothing is given in the place of a value
-no_override : (d : Draft) (e p j k : ℕ) → d.overrides ≡ [] → override_at d e p j k ≡ None
+pub no_override : (d : Draft) (e p j k : ℕ) → d.overrides ≡ [] → override_at d e p j k ≡ None
 no_override d e p j k none =
     ap (λ (os : List Override). option_map (λ (o : Override). o.value) (find (λ (o : Override). o.entry == e && o.part == p && o.leaf == j && o.element == k) os)) none
 
-given_or-none : (x : NamedLeaf) (v : Value Target) (o : Option MadeTo) → o ≡ None → given_or x v o ≡ v
+pub given_or-none : (x : NamedLeaf) (v : Value Target) (o : Option MadeTo) → o ≡ None → given_or x v o ≡ v
 given_or-none x v o none = ap (given_or x v) none
 
 module _ (files : List File) (d : Draft) (e i n : ℕ) (names : Naming Target) (null : names 0 ≡ None)
