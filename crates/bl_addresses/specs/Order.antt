@@ -1,6 +1,7 @@
 -- In which order the nodes of a scope are kept.
-use Rattle.std.specs.Prelude.{◌≡◌, ℕ, ◌<◌, true, List, length, All, Contains}
+use Rattle.std.specs.Prelude.{◌≡◌, ℕ, ◌<◌, ◌≤◌, true, List, length, All, Contains}
 use Rattle.std.specs.Ordering.{nat_cmp, ordering_then}
+use Rattle.std.specs.List.{AllWithin}
 use Rattle.std.specs.List.Sorted.{IsSortedByKey}
 use Rattle.std.specs.declared.cmp.Ordering.{Ordering}
 use Rattle.bl_addresses.specs.declared.marks.Mark.{Mark}
@@ -28,3 +29,11 @@ key_cmp x y = ordering_then (ordering_then (nat_cmp x.0 y.0) (nat_cmp x.1 y.1)) 
 pub record IsOrder (scope : Scope) (marks : List Mark) (order : List ℕ) : Type 0 where
   pub members : AreMembers scope marks order
   pub sorted : IsSortedByKey (key scope marks) key_cmp order
+
+-- the nodes of a part stand in the order from one place to before another: those before are of lower parts, and
+-- those behind of higher ones
+pub record HasPart (scope : Scope) (marks : List Mark) (order : List ℕ) (from to part : ℕ) : Type 0 where
+  pub rises : from ≤ to
+  pub inside : to ≤ length order
+  pub lower : AllWithin (λ n. (place_in scope (mark_at marks n)).part < part) order 0 from
+  pub higher : AllWithin (λ n. part < (place_in scope (mark_at marks n)).part) order to (length order)

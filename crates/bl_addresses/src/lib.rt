@@ -4,6 +4,7 @@
 mod marks;
 mod order;
 mod search;
+mod spans;
 mod table;
 
 pub use table::Table;

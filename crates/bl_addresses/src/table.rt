@@ -5,13 +5,14 @@ ghost use Rattle.bl_addresses.specs.Marks.{marks_by};
 use crate::marks::{Mark, Place, Scope, marks_by};
 use crate::order::order_of;
 use crate::search::last_at;
+use crate::spans::{Span, span_of, starts_of};
 use bl_num::NoMemory;
 use std::alloc::Global;
 use std::marker::Model;
 
 /// Which nodes addresses name, group by group. Addresses are searched in sorted lists: a file
 /// chooses its addresses, and in a hashed table it could choose ones that collide. A node takes 24
-/// bytes.
+/// bytes, and a group 4.
 #[derive(Debug, Drop)]
 pub struct Table {
     // What addresses are compared with in each node.
@@ -20,6 +21,8 @@ pub struct Table {
     nodes: Vec<u32>,
     // The IDs by address and by number.
     ids: Vec<u32>,
+    // Where each group is guessed to begin in the nodes. A search tests its guess.
+    starts: Vec<u32>,
 }
 
 impl Model for Table {
@@ -52,7 +55,13 @@ impl Table {
         let marks = marks_by(alloc, groups, addresses, ids)?;
         let nodes = order_of(alloc, Scope::Group, &marks)?;
         let ids = order_of(alloc, Scope::File, &marks)?;
-        Ok(Table { marks, nodes, ids })
+        let starts = starts_of(alloc, &marks)?;
+        Ok(Table {
+            marks,
+            nodes,
+            ids,
+            starts,
+        })
     }
 
     /// The number of a node's group.
@@ -75,14 +84,24 @@ impl Table {
             part: group,
             address,
         };
-        match last_at(Scope::Group, &self.marks, &self.nodes, place) {
+        let span = self.span_of(group);
+        match last_at(Scope::Group, &self.marks, &self.nodes, span, place) {
             Some(node) => Some(node),
             None => last_at(
                 Scope::File,
                 &self.marks,
                 &self.ids,
+                Span {
+                    from: 0,
+                    to: self.ids.len(),
+                },
                 Place { part: 0, address },
             ),
         }
+    }
+
+    // Where a group is guessed to stand in the nodes.
+    fn span_of(&self, group: u32) -> Span {
+        span_of(&self.starts, group, self.nodes.len())
     }
 }

@@ -1,12 +1,17 @@
-use Rattle.std.proofs.Common.{rules}
-use Rattle.std.proofs.lemmas.List.Sorted.{IsPartitionPoint-from_clause}
-use Rattle.bl_addresses.specs.Marks.{mark_at, is_up_to, place_in}
 use Rattle.bl_addresses.proofs.OrderLemmas.{order_splits}
+use Rattle.bl_addresses.proofs.SpanLemmas.{piece_splits, piece_ends}
 use Rattle.bl_addresses.proofs.search.end_of.Goals as goal
 
-pub returns-clause-split : goal.returns-clause-split
-returns-clause-split c =
-    IsPartitionPoint-from_clause (λ n. is_up_to c.args.place (place_in c.args.scope (mark_at c.args.marks.now n))) _ _
-    c.partition_point.ensures.partitioned
-    (order_splits c.args.scope c.args.marks.now c.args.order.now c.args.place c.requires)
-    (λ a r q k. search rules)
+pub end_in-requires : goal.end_in-requires
+end_in-requires c =
+    piece_splits c.args.scope c.args.marks.now c.args.order.now c.args.place c.args.span.from c.args.span.to
+    c.requires (c.has_part.ensures c.if-has_part.true)
+
+pub end_in-requires-else-has_part : goal.end_in-requires-else-has_part
+end_in-requires-else-has_part c =
+    order_splits c.args.scope c.args.marks.now c.args.order.now c.args.place c.requires
+
+pub returns-then-has_part-clause-split : goal.returns-then-has_part-clause-split
+returns-then-has_part-clause-split c =
+    piece_ends c.args.scope c.args.marks.now c.args.order.now c.args.place c.args.span.from c.args.span.to
+    c.end_in.result (c.has_part.ensures c.if-has_part.true) c.end_in.ensures.bound c.end_in.ensures.split
