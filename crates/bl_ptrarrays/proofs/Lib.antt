@@ -1,0 +1,5 @@
+pub mod Turned
+pub mod PiecesPut
+pub mod NumbersCarried
+pub mod ContentsCarried
+pub mod ViewsJoined

@@ -1,0 +1,16 @@
+ghost use Rattle.std.specs.Prelude.{◌≡◌, ◌<◌, ◌^◌};
+ghost use Rattle.bl_format.specs.Graph.{Target, Naming};
+ghost use Rattle.bl_selection.specs.Written.{address_of};
+
+/// What addresses become in the output.
+pub trait Images {
+    /// What an address names in the output.
+    ghost names: { Self → Naming Target };
+
+    /// The address that what an address names has in the output: it fits either width, and null
+    /// stays null.
+    fn image(&self, address: u64) -> u64
+        ensures image { result ≡ address_of (names self.now address) }
+        ensures null { address ≡ 0 → result ≡ 0 }
+        ensures small { result < 2 ^ 32 };
+}
