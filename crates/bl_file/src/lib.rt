@@ -1,8 +1,27 @@
-//! Files that are read: their bytes, whole or a part at a time.
+//! Files that are read: their bytes, whole or a part at a time, and what these read as.
 #![tactic(auto)]
 
+mod basics;
+mod fault;
+mod fault_names;
+mod id_parts;
+mod kinds;
+mod layout;
+mod node_views;
+mod nodes;
+mod opened;
+mod outline;
 mod payload;
+mod reading;
+mod views;
 mod whole;
 
+pub use bl_format::{BlockFault, Head, HeadFault, Header, LayoutFault, RawKind, SdnaFault};
+pub use fault::OpenFault;
+pub use opened::open;
+pub use outline::{Opened, Outline};
 pub use payload::Payload;
 pub use whole::WholePayload;
+
+#[cfg(test)]
+mod tests;

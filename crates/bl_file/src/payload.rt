@@ -1,5 +1,5 @@
 // The bytes of a file.
-ghost use Rattle.std.specs.Prelude.{◌≡◌, ◌≢◌, ◌+◌, ◌≤◌, ℕ, List, length, None, IfOk, OnOk, IsErrOf, IfSome};
+ghost use Rattle.std.specs.Prelude.{◌≡◌, ◌≢◌, ◌+◌, ◌<◌, ◌≤◌, ℕ, List, All, length, None, IfOk, OnOk, IsErrOf, IfSome};
 ghost use Rattle.bl_shelf.specs.Told.{bytes_under};
 ghost use Rattle.bl_shelf.specs.Causes.{HasCause};
 ghost use Rattle.bl_shelf.specs.Contents.{AreBytesAt};
@@ -62,4 +62,8 @@ pub trait Payload: Sized + Drop {
 
     /// Bytes that the payload agrees with are as many as its size.
     ghost agreed_size: { (p : Self) (bytes : List ℕ) → agrees p bytes → length bytes ≡ file_size p };
+
+    /// Bytes that the payload agrees with are below 256.
+    ghost agreed_bytes: { (p : Self) (bytes : List ℕ) → agrees p bytes
+        → All (λ byte. byte < 256) bytes };
 }

@@ -1,5 +1,5 @@
 // A file that is held whole.
-ghost use Rattle.std.specs.Prelude.{◌≡◌, length};
+ghost use Rattle.std.specs.Prelude.{◌≡◌, ◌<◌, All, length};
 
 use crate::Payload;
 use bl_num::Text;
@@ -20,9 +20,11 @@ impl Payload for WholePayload {
 
     ghost file_size = { λ p. length p.bytes };
 
-    ghost agrees = { λ p bytes. bytes ≡ p.bytes };
+    ghost agrees = { λ p bytes. (bytes ≡ p.bytes) × All (λ byte. byte < 256) bytes };
 
-    ghost agreed_size = { λ p bytes same. ap length same };
+    ghost agreed_size = { λ p bytes agrees. ap length agrees.0 };
+
+    ghost agreed_bytes = { λ p bytes agrees. agrees.1 };
 
     fn start<S: Shelf>(
         alloc: Global,
@@ -33,6 +35,7 @@ impl Payload for WholePayload {
         let file = Vec::from_slice(alloc, name.as_bytes())?;
         let mut bytes = vec![in alloc; 0; size as usize]?;
         shelf.read_at(name, 0, &mut bytes)?;
+        are_bytes(&bytes);
         Ok(WholePayload {
             name: Text::from_vec(file),
             bytes: Text::from_vec(bytes),
@@ -50,6 +53,11 @@ impl Payload for WholePayload {
         Ok(())
     }
 }
+
+// A byte is below 256, which is known of a slice alone.
+fn are_bytes(bytes: &[u8])
+    ensures { All (λ byte. byte < 256) bytes.now }
+{}
 
 #[cfg(test)]
 mod tests {

@@ -1,0 +1,7 @@
+use Rattle.std.proofs.Common.{◌≡◌, take}
+use Rattle.bl_file.specs.Views.{kind_by}
+use Rattle.bl_file.proofs.KindLemmas.{KindsSoFar}
+use Rattle.bl_file.proofs.kinds.kinds_by.Given as goal
+
+abbrev pub invariant-loop-k : goal.invariant-loop-k
+invariant-loop-k l = KindsSoFar l.nodes l.seen l.k l.kinds.items

@@ -1,0 +1,20 @@
+use Rattle.bl_file.proofs.Opens.{shelf_refuses, large_refused, format_passes, format_refuses}
+use Rattle.bl_file.proofs.opened.open.Goals as goal
+
+pub returns-in-Err-clause-refuses : goal.returns-in-Err-clause-refuses
+returns-in-Err-clause-refuses g c =
+    shelf_refuses (g.S.Shelf.told c.args.shelf.now) c.args.name.now c.args.used c.in-Err.fault c.shelf_fault.result c.shelf_fault.ensures c.in-Err.ensures.absent.only
+
+pub returns-then-sum-gt-MAX_INPUT_BYTES-clause-refuses : goal.returns-then-sum-gt-MAX_INPUT_BYTES-clause-refuses
+returns-then-sum-gt-MAX_INPUT_BYTES-clause-refuses g c =
+    large_refused (g.S.Shelf.told c.args.shelf.now) c.args.name.now c.args.used c.in-Ok.size c.in-Ok.ensures.size c.if-sum-gt-MAX_INPUT_BYTES.true
+
+pub returns-in-Ok-read_outline-clause-passes : goal.returns-in-Ok-read_outline-clause-passes
+returns-in-Ok-read_outline-clause-passes g c =
+    format_passes (g.S.Shelf.told c.args.shelf.now) c.args.name.now c.args.used c.in-Ok.size c.if-sum-gt-MAX_INPUT_BYTES.false c.in-Ok.ensures.size
+    (rw (← c.in-Ok.ensures.told, ← c.in-Ok-start.ensures.told, ← c.in-Ok-start.ensures.name) c.in-Ok-read_outline.ensures.passes)
+
+pub returns-in-Err-read_outline-clause-refuses : goal.returns-in-Err-read_outline-clause-refuses
+returns-in-Err-read_outline-clause-refuses g c =
+    format_refuses (g.S.Shelf.told c.args.shelf.now) c.args.name.now c.args.used c.in-Ok.size c.in-Err-read_outline.fault c.if-sum-gt-MAX_INPUT_BYTES.false c.in-Ok.ensures.size
+    (rw (← c.in-Ok.ensures.told, ← c.in-Ok-start.ensures.told, ← c.in-Ok-start.ensures.name) c.in-Err-read_outline.ensures.fault)

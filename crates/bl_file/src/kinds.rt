@@ -1,0 +1,142 @@
+// The kinds of nodes.
+ghost use Rattle.std.specs.Prelude.{◌≡◌, ◌≤◌, ◌<◌, ◌^◌, All, None, IfOk, IfErr, IsErrOf, length};
+ghost use Rattle.bl_format.specs.Limits.{most_blocks};
+ghost use Rattle.bl_format.specs.Nodes.{is_pair_code};
+ghost use Rattle.bl_shelf.specs.Causes.{HasCause};
+ghost use Rattle.bl_file.specs.Held.{IsHeldAnd};
+ghost use Rattle.bl_file.specs.Opening.{kinds_in};
+ghost use Rattle.bl_file.specs.Outlines.{IsNodeIn, ArePairsLong, file_with, marks_of};
+ghost use Rattle.bl_file.specs.Views.{AreInside, speaking_structs, viewed_or_bytes, kind_by, kinds_by};
+
+use crate::Payload;
+use crate::basics::basic_lengths;
+use crate::node_views::nodes_said;
+use crate::views::{Sight, speaks};
+use bl_addresses::Table;
+use bl_format::{Head, Header, RawKind, View};
+use bl_layout::Layout;
+use bl_ptrarrays::views;
+use bl_shelf::{Shelf, ShelfFault};
+use std::alloc::{AllocError, Global};
+
+// The bytes of the longest type, which an element of any struct fits in.
+const LONGEST_TYPE: usize = 65_535;
+
+/// The kind of each node as raw data; a struct node counts as bytes. One element of a node is in
+/// memory at a time, and the views of raw nodes.
+pub fn kinds_of<S: Shelf, P: Payload>(
+    alloc: Global,
+    payload: &mut P,
+    shelf: &mut S,
+    header: &Header,
+    layout: &Layout,
+    nodes: &[Head],
+    table: &Table,
+) -> Result<Vec<RawKind>, ShelfFault>
+    requires width { layout.now.width ≡ header.now.width }
+    requires nodes { All (IsNodeIn header.now layout.now.catalogue (P.file_size payload.old)) nodes.now }
+    requires few { length nodes.now ≤ most_blocks }
+    requires table { table.now ≡ marks_of header.now layout.now.catalogue nodes.now }
+    requires held { IsHeldAnd (S.told shelf.old) (P.file_name payload.old) (P.agrees payload.old) }
+    ensures len { IfOk result (λ kinds. length kinds.items ≡ length nodes.now) }
+    ensures kinds { IfOk result (λ kinds.
+        IsHeldAnd (S.told shelf.old) (P.file_name payload.old) (λ b. kinds.items
+        ≡ kinds_in (file_with header.now layout.now.catalogue nodes.now b))) }
+    ensures pairs { IfOk result (λ kinds. ArePairsLong nodes.now kinds.items) }
+    ensures name { P.file_name payload.new ≡ P.file_name payload.old }
+    ensures size { P.file_size payload.new ≡ P.file_size payload.old }
+    ensures agrees { IsHeldAnd (S.told shelf.old) (P.file_name payload.old) (P.agrees payload.new) }
+    ensures told { S.told shelf.new ≡ S.told shelf.old }
+    ensures room { S.room shelf.new ≡ S.room shelf.old }
+    ensures cause { HasCause (S.faults shelf.old) (S.faults shelf.new)
+        (S.misses shelf.old) (S.misses shelf.new) result }
+    ensures absent { IsErrOf result ShelfFault.Absent → S.told shelf.old ≡ None }
+{
+    let basics = basic_lengths(alloc, layout.catalogue())?;
+    let speaking = speaking_structs(alloc, layout, &basics)?;
+    let mut buffer = vec![in alloc; 0; LONGEST_TYPE]?;
+    let mut seen = Vec::new(alloc);
+    let sight = Sight {
+        header,
+        layout,
+        nodes,
+        table,
+        basics: &basics,
+        speaking: &speaking,
+    };
+    match nodes_said(&sight, payload, shelf, buffer.as_mut_slice(), &mut seen) {
+        Ok(()) => kinds_by(alloc, nodes, &seen),
+        Err(fault) => Err(fault),
+    }
+}
+
+// By the number of a struct, whether its leaves say anything.
+fn speaking_structs(
+    alloc: Global,
+    layout: &Layout,
+    basics: &[Option<u8>],
+) -> Result<Vec<bool>, AllocError>
+    ensures { IfOk result (λ speaking. speaking.items
+        ≡ speaking_structs layout.now.catalogue layout.now.width basics.now) }
+{
+    let count = layout.struct_count();
+    let mut speaking = Vec::with_capacity(alloc, count as usize)?;
+    for s in 0..count {
+        speaking.push(speaks(basics, layout.leaves(s)))?;
+    }
+    Ok(speaking)
+}
+
+// The kinds of nodes by the views of the raw ones.
+fn kinds_by(alloc: Global, nodes: &[Head], seen: &[View]) -> Result<Vec<RawKind>, ShelfFault>
+    requires few { length nodes.now < 2 ^ 32 }
+    requires seen { AreInside nodes.now seen.now }
+    ensures kinds { IfOk result (λ kinds. kinds.items ≡ kinds_by nodes.now seen.now) }
+    ensures len { IfOk result (λ kinds. length kinds.items ≡ length nodes.now) }
+    ensures pairs { IfOk result (λ kinds. ArePairsLong nodes.now kinds.items) }
+    ensures fault { IfErr result (λ fault. fault ≡ ShelfFault.NoMemory) }
+{
+    let viewed = match views(alloc, nodes.len() as u32, seen) {
+        Ok(kinds) => kinds,
+        Err(_) => return Err(ShelfFault::NoMemory),
+    };
+    let viewed = viewed.as_slice();
+    let mut kinds = Vec::with_capacity(alloc, nodes.len())?;
+    for (k, node) in nodes.iter().enumerate() {
+        kinds.push(kind_by(node, viewed[k]))?;
+    }
+    Ok(kinds)
+}
+
+// The kind of a node, by the kind that its views give.
+fn kind_by(node: &Head, viewed: RawKind) -> RawKind
+    ensures { result ≡ kind_by node.now viewed }
+{
+    if node.index != 0 {
+        RawKind::Bytes
+    } else if !is_pair_code(node.code) {
+        viewed_or_bytes(viewed)
+    } else if node.len >= 8 {
+        RawKind::Pair
+    } else {
+        RawKind::Bytes
+    }
+}
+
+// The kind that views give, and bytes in place of a pair, which no view gives.
+fn viewed_or_bytes(viewed: RawKind) -> RawKind
+    ensures { result ≡ viewed_or_bytes viewed }
+{
+    match viewed {
+        RawKind::Bytes => RawKind::Bytes,
+        RawKind::Numbers(n) => RawKind::Numbers(n),
+        RawKind::Pointers => RawKind::Pointers,
+        RawKind::Pair => RawKind::Bytes,
+    }
+}
+
+fn is_pair_code(code: [u8; 4]) -> bool
+    ensures { result ≡ is_pair_code code }
+{
+    code == *b"REND" || code == *b"TEST"
+}

@@ -1,0 +1,231 @@
+// Reads a file's header and its blocks through a payload.
+ghost use Rattle.std.specs.Prelude.{◌≡◌, ◌+◌, ◌-◌, ◌*◌, ◌^◌, ◌<◌, ◌≤◌, All, min, length, Ok, IfOk, OnOk, IfErr};
+ghost use Rattle.bl_format.specs.Limits.{first_version, last_version, most_blocks};
+ghost use Rattle.bl_format.specs.Blocks.{header_of, header_size, head_size, step_in, step_at, blocks_of};
+ghost use Rattle.bl_file.specs.Held.{IsHeldAnd};
+ghost use Rattle.bl_file.specs.Outlines.{HasOpenCause};
+ghost use Rattle.bl_file.specs.Reading.{IsCopyFault, IsFaultOf, IsPartAt, with_fault, IsHeaderFault, IsStepFault, IsBlocksFault, IsOfHeader, IsOfBlocks, IsBlockIn, IsStepIn};
+
+use crate::fault::shelf_fault;
+use crate::{OpenFault, Payload};
+use bl_blocks::{MAX_BLOCKS, head_size, next_block};
+use bl_format::{BlockFault, Head, Header, Step};
+use bl_header::{HEADER_SIZE, parse_header};
+use bl_shelf::Shelf;
+use std::alloc::Global;
+
+// The bytes of the longest head.
+const LONGEST_HEAD: usize = 24;
+
+/// The header of a file.
+pub fn read_header<S: Shelf, P: Payload>(
+    payload: &mut P,
+    shelf: &mut S,
+    size: u64,
+) -> Result<Header, OpenFault>
+    requires size { P.file_size payload.old ≡ size }
+    requires held { IsHeldAnd (S.told shelf.old) (P.file_name payload.old)
+        (P.agrees payload.old) }
+    ensures version { IfOk result (λ header.
+        (first_version ≤ header.version) × (header.version ≤ last_version)) }
+    ensures whole { IfOk result (λ header. header_size header ≤ size) }
+    ensures read { IfOk result (λ header. IsHeldAnd (S.told shelf.old) (P.file_name payload.old)
+        (λ bytes. header_of bytes ≡ Ok header)) }
+    ensures fault { IfErr result
+        (IsFaultOf (S.told shelf.old) (P.file_name payload.old) IsHeaderFault) }
+    ensures kind { IfErr result IsOfHeader }
+    ensures name { P.file_name payload.new ≡ P.file_name payload.old }
+    ensures size { P.file_size payload.new ≡ P.file_size payload.old }
+    ensures agrees { IsHeldAnd (S.told shelf.old) (P.file_name payload.old)
+        (P.agrees payload.new) }
+    ensures told { S.told shelf.new ≡ S.told shelf.old }
+    ensures room { S.room shelf.new ≡ S.room shelf.old }
+    ensures cause { HasOpenCause (S.faults shelf.old) (S.faults shelf.new)
+        (S.misses shelf.old) (S.misses shelf.new) result }
+{
+    let mut window = [0u8; HEADER_SIZE];
+    let part = &mut window[..size.min(HEADER_SIZE as u64) as usize];
+    read_part(payload, shelf, 0, part)?;
+    header_in(part)
+}
+
+/// All blocks of a file, in their order and without the end.
+pub fn read_blocks<S: Shelf, P: Payload>(
+    alloc: Global,
+    payload: &mut P,
+    shelf: &mut S,
+    header: &Header,
+    size: u64,
+) -> Result<Vec<Head>, OpenFault>
+    requires whole { header_size header.now ≤ size }
+    requires small { size < 2 ^ 63 }
+    requires size { P.file_size payload.old ≡ size }
+    requires held { IsHeldAnd (S.told shelf.old) (P.file_name payload.old)
+        (P.agrees payload.old) }
+    ensures sound { IfOk result (λ heads. All (IsBlockIn header.now size) heads.items) }
+    ensures few { IfOk result (λ heads. length heads.items ≤ most_blocks) }
+    ensures spaced { IfOk result (λ heads. header_size header.now + 20 * length heads.items ≤ size) }
+    ensures read { IfOk result (λ heads. IsHeldAnd (S.told shelf.old) (P.file_name payload.old)
+        (λ bytes. blocks_of header.now bytes ≡ Ok heads.items)) }
+    ensures fault { IfErr result (IsFaultOf (S.told shelf.old) (P.file_name payload.old)
+        (IsBlocksFault header.now)) }
+    ensures kind { IfErr result IsOfBlocks }
+    ensures name { P.file_name payload.new ≡ P.file_name payload.old }
+    ensures size { P.file_size payload.new ≡ P.file_size payload.old }
+    ensures agrees { IsHeldAnd (S.told shelf.old) (P.file_name payload.old)
+        (P.agrees payload.new) }
+    ensures told { S.told shelf.new ≡ S.told shelf.old }
+    ensures room { S.room shelf.new ≡ S.room shelf.old }
+    ensures cause { HasOpenCause (S.faults shelf.old) (S.faults shelf.new)
+        (S.misses shelf.old) (S.misses shelf.new) result }
+{
+    let mut heads = Vec::new(alloc);
+    let mut at = HEADER_SIZE as u64;
+    for _ in 0..MAX_BLOCKS + 1 {
+        match read_step(payload, shelf, header, at, size)? {
+            Step::Block(head) => {
+                at += head_size(header) as u64 + head.len;
+                heads.push(head)?;
+            }
+            Step::End => return Ok(heads),
+        }
+    }
+    Err(OpenFault::Block(BlockFault::TooManyBlocks(MAX_BLOCKS + 1)))
+}
+
+// What begins at a place behind the header.
+fn read_step<S: Shelf, P: Payload>(
+    payload: &mut P,
+    shelf: &mut S,
+    header: &Header,
+    at: u64,
+    size: u64,
+) -> Result<Step, OpenFault>
+    requires behind { header_size header.now ≤ at }
+    requires inside { at ≤ size }
+    requires size { P.file_size payload.old ≡ size }
+    requires held { IsHeldAnd (S.told shelf.old) (P.file_name payload.old)
+        (P.agrees payload.old) }
+    ensures sound { IfOk result (IsStepIn header.now at size) }
+    ensures read { IfOk result (λ step. IsHeldAnd (S.told shelf.old) (P.file_name payload.old)
+        (λ bytes. step_at header.now bytes at ≡ Ok step)) }
+    ensures fault { IfErr result (IsFaultOf (S.told shelf.old) (P.file_name payload.old)
+        (IsStepFault header.now at)) }
+    ensures kind { IfErr result IsOfBlocks }
+    ensures name { P.file_name payload.new ≡ P.file_name payload.old }
+    ensures size { P.file_size payload.new ≡ P.file_size payload.old }
+    ensures agrees { IsHeldAnd (S.told shelf.old) (P.file_name payload.old)
+        (P.agrees payload.new) }
+    ensures told { S.told shelf.new ≡ S.told shelf.old }
+    ensures room { S.room shelf.new ≡ S.room shelf.old }
+    ensures cause { HasOpenCause (S.faults shelf.old) (S.faults shelf.new)
+        (S.misses shelf.old) (S.misses shelf.new) result }
+{
+    let mut window = [0u8; LONGEST_HEAD];
+    let part = &mut window[..(size - at).min(head_size(header) as u64) as usize];
+    read_part(payload, shelf, at, part)?;
+    step_in(header, part, at, size)
+}
+
+/// Fills all of `dst` with the bytes from the place `at` on.
+pub fn read_part<S: Shelf, P: Payload>(
+    payload: &mut P,
+    shelf: &mut S,
+    at: u64,
+    dst: &mut [u8],
+) -> Result<(), OpenFault>
+    requires inside { at + length dst.old ≤ P.file_size payload.old }
+    requires held { IsHeldAnd (S.told shelf.old) (P.file_name payload.old)
+        (P.agrees payload.old) }
+    ensures bytes { OnOk result (IsHeldAnd (S.told shelf.old) (P.file_name payload.old)
+        (IsPartAt (P.file_size payload.old) at dst.new)) }
+    ensures fault { IfErr result (IsCopyFault (S.told shelf.old)) }
+    ensures name { P.file_name payload.new ≡ P.file_name payload.old }
+    ensures size { P.file_size payload.new ≡ P.file_size payload.old }
+    ensures agrees { IsHeldAnd (S.told shelf.old) (P.file_name payload.old)
+        (P.agrees payload.new) }
+    ensures told { S.told shelf.new ≡ S.told shelf.old }
+    ensures room { S.room shelf.new ≡ S.room shelf.old }
+    ensures cause { HasOpenCause (S.faults shelf.old) (S.faults shelf.new)
+        (S.misses shelf.old) (S.misses shelf.new) result }
+{
+    match payload.copy_out(shelf, at, dst) {
+        Ok(()) => Ok(()),
+        Err(fault) => Err(shelf_fault(fault)),
+    }
+}
+
+// The header that some bytes begin with.
+fn header_in(bytes: &[u8]) -> Result<Header, OpenFault>
+    ensures { result ≡ with_fault OpenFault.Head (header_of bytes.now) }
+{
+    match parse_header(bytes) {
+        Ok(header) => Ok(header),
+        Err(fault) => Err(OpenFault::Head(fault)),
+    }
+}
+
+// What some bytes begin with that stand at the place `at`.
+fn step_in(header: &Header, window: &[u8], at: u64, size: u64) -> Result<Step, OpenFault>
+    requires { min (head_size header.now) (size - at) ≤ length window.now }
+    ensures step { result ≡ with_fault OpenFault.Block (step_in header.now window.now at size) }
+    ensures bytes { All (λ byte. byte < 256) window.now }
+{
+    match next_block(header, window, at, size) {
+        Ok(step) => Ok(step),
+        Err(fault) => Err(OpenFault::Block(fault)),
+    }
+}
+
+#[cfg(test)]
+mod tests {
+    use super::*;
+    use crate::WholePayload;
+    use bl_format::HeadFault;
+    use bl_num::{NoMemory, Order, Width};
+    use bl_shelf::SteadyShelf;
+
+    const WHOLE: &[u8] =
+        b"BLENDER_V279\0\0OB\0\0\0\x03\x12\x34\x56\x78\0\0\0\x05\0\0\0\x01abcENDBrest";
+
+    // The header of a file, and how many blocks it has.
+    fn header_and_count<P: Payload, S: Shelf>(
+        alloc: Global,
+        shelf: &mut S,
+        name: &str,
+    ) -> Result<(Header, usize), OpenFault> {
+        let size = match shelf.size(name) {
+            Ok(size) => size,
+            Err(fault) => return Err(shelf_fault(fault)),
+        };
+        let mut payload = match P::start(alloc, shelf, name, size) {
+            Ok(payload) => payload,
+            Err(fault) => return Err(shelf_fault(fault)),
+        };
+        let header = read_header(&mut payload, shelf, size)?;
+        let heads = read_blocks(alloc, &mut payload, shelf, &header, size)?;
+        Ok((header, heads.len()))
+    }
+
+    #[test]
+    fn reads_header_and_blocks(rt: HostRuntime) -> Result<(), NoMemory> {
+        let mut shelf = SteadyShelf::new(rt.alloc());
+        shelf.hold("a", WHOLE)?;
+        shelf.hold("b", &WHOLE[..34])?;
+        shelf.hold("c", b"BLENDER")?;
+        let header = Header {
+            width: Width::Four,
+            order: Order::Big,
+            version: 279,
+        };
+        let whole = header_and_count::<WholePayload, SteadyShelf>(rt.alloc(), &mut shelf, "a");
+        assert_eq!(rt; whole.ok(), Some((header, 1)));
+        let short = header_and_count::<WholePayload, SteadyShelf>(rt.alloc(), &mut shelf, "b");
+        assert!(rt; matches!(&short, Err(OpenFault::Block(BlockFault::Truncated(12)))));
+        let begun = header_and_count::<WholePayload, SteadyShelf>(rt.alloc(), &mut shelf, "c");
+        assert!(rt; matches!(&begun, Err(OpenFault::Head(HeadFault::BadMagic))));
+        let none = header_and_count::<WholePayload, SteadyShelf>(rt.alloc(), &mut shelf, "d");
+        assert!(rt; matches!(&none, Err(OpenFault::Absent)));
+        Ok(())
+    }
+}
