@@ -39,7 +39,7 @@ pieces_rise from to (p ∷ ps) apart =
     let rest = pieces_rise (p.0 + p.1) to ps apart.1 in omega (arith, apart.0)
 
 -- a value that was read of so many bytes fills them
-value_fills : (names : Naming Target) (order : Order) (kind : Kind) (size : ℕ) (bytes : List ℕ)
+pub value_fills : (names : Naming Target) (order : Order) (kind : Kind) (size : ℕ) (bytes : List ℕ)
     → length bytes ≡ size → FillsPlace size (value_by kind names order bytes)
 value_fills names order (kinds.Whole whole) size bytes len = tt
 value_fills names order (kinds.Bits n) size bytes len = tt
@@ -54,7 +54,7 @@ IsThere bytes e = length (leaf_bytes e.0 bytes e.1) ≡ e.0.size
 abbrev pub AreThere : List ℕ → NamedLeaf → Type 0
 AreThere bytes x = (k : ℕ) → k < x.count → length (leaf_bytes x bytes k) ≡ x.size
 
-slots_there : (bytes : List ℕ) (xs : List NamedLeaf) → All (AreThere bytes) xs → All (IsThere bytes) (slots xs)
+pub slots_there : (bytes : List ℕ) (xs : List NamedLeaf) → All (AreThere bytes) xs → All (IsThere bytes) (slots xs)
 slots_there bytes [] all = All-nil (IsThere bytes)
 slots_there bytes (x ∷ xs) all =
     All-append (IsThere bytes) (map (λ k. (x, k)) (numbers_below x.count)) (slots xs)

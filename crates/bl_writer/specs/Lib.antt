@@ -1,1 +1,4 @@
+pub mod Blocks
 pub mod Image
+pub mod Payloads
+pub mod Rendering

@@ -6,11 +6,11 @@ ghost use Rattle.bl_format.specs.Words.{part};
 ghost use Rattle.bl_members.specs.Leaf.{FitsIn, HoldsNumbers, replaced_at};
 ghost use Rattle.bl_writer.specs.Image.{is_pointer, CanBeCopied, with_elements, with_leaves};
 
-use crate::images::Images;
 use bl_format::{Kind, Leaf};
 use bl_layout::Layout;
 use bl_members::{read_leaf, write_leaf};
 use bl_num::Order;
+use bl_ptrarrays::Images;
 
 /// Copies one element of a struct, in the same order and at the same width: each value as it is,
 /// each pointer as the address that its target has in the output, and zeros outside all leaves.
@@ -25,10 +25,11 @@ pub fn copy_element<I: Images>(
     requires s { s < length layout.now.catalogue.structs }
     requires src { length src.now ≡ struct_length layout.now.catalogue s }
     requires dst { length dst.old ≡ struct_length layout.now.catalogue s }
-    ensures { dst.new ≡ element_written order (struct_length layout.now.catalogue s)
+    ensures copied { dst.new ≡ element_written order (struct_length layout.now.catalogue s)
         (named_leaves layout.now.catalogue layout.now.width s)
         (fields (struct_cells (I.names images.now) order layout.now.catalogue layout.now.width s
         src.now)) }
+    ensures length { length dst.new ≡ length dst.old }
 {
     dst.fill(0);
     copy_leaves(layout.leaves(s), order, src, images, dst);
@@ -38,7 +39,8 @@ pub fn copy_element<I: Images>(
 fn copy_leaves<I: Images>(leaves: &[Leaf], order: Order, src: &[u8], images: &I, dst: &mut [u8])
     requires leaves { All (CanBeCopied (length src.now)) leaves.now }
     requires dst { length dst.old ≡ length src.now }
-    ensures { dst.new ≡ with_leaves (I.names images.now) order src.now leaves.now dst.old }
+    ensures copied { dst.new ≡ with_leaves (I.names images.now) order src.now leaves.now dst.old }
+    ensures length { length dst.new ≡ length dst.old }
 {
     for leaf in leaves {
         copy_leaf(leaf, order, src, images, dst);

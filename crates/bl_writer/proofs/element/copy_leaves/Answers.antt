@@ -9,7 +9,7 @@ loop-leaf-preserved g c = (
   c.copy_leaf.ensures.length ∙ c.loop-leaf.invariant.1,
 )
 
-pub returns : goal.returns
-returns g c =
+pub returns-clause-copied : goal.returns-clause-copied
+returns-clause-copied g c =
     with_leaves-end (g.I.Images.names c.args.images.now) c.args.order c.args.src.now c.args.leaves.now c.loop-leaf.leaf-index c.loop-leaf.dst _
     (omega (arith, c.loop-leaf-test.false)) c.loop-leaf.invariant.0

@@ -1,0 +1,146 @@
+-- How long the blocks of a sound outline are at most.
+use Rattle.std.proofs.Common.{◌≡◌, ◌≤◌, ◌<◌, inl, inr, ℕ, zero, suc, ◌+◌, ◌-◌, ◌*◌, ◌/◌, ◌^◌, Bool, true, false, cond, List, ◌++◌, length, take, Some, None, refl, ap, ◌∙◌, arith}
+use Rattle.std.specs.Prelude.{◌==◌, nat_le, nat_lt, codes, max}
+use Rattle.std.proofs.lemmas.Bool.{ltb-false, cases_lt}
+use Rattle.std.proofs.lemmas.List.{length-append, length-replicate}
+use Rattle.std.proofs.Math.Nat.{le-max_left, le-max_right}
+use Rattle.bl_num.specs.declared.number.Width.{Width}
+use Rattle.bl_num.specs.declared.number.Width.TheVariants.{Four, Eight}
+use Rattle.bl_num.specs.Numbers.{pointer_bytes, bytes_of}
+use Rattle.bl_num.proofs.BytesOf.{length-bytes_of}
+use Rattle.bl_format.specs.declared.file.Header.{Header}
+use Rattle.bl_format.specs.declared.file.Head.{Head}
+use Rattle.bl_format.specs.declared.raw.RawKind.{RawKind}
+use Rattle.bl_format.specs.declared.raw.RawKind.TheVariants.{Bytes, Numbers, Pointers, Pair}
+use Rattle.bl_format.specs.Words.{zeros}
+use Rattle.bl_format.specs.Blocks.{head_size, code_meant, code_written, head_written}
+use Rattle.bl_format.proofs.StepBack.{code_written_back}
+use Rattle.bl_format.specs.Layout.{struct_length}
+use Rattle.bl_format.specs.Nodes.{NodeFault, BadStruct, ShortBlock, node_fault}
+use Rattle.bl_format.specs.Graph.{raw_length}
+use Rattle.bl_selection.specs.Selection.{no_head}
+use Rattle.bl_selection.specs.Written.{block_written}
+use Rattle.bl_file.specs.declared.outline.Outline.{Outline}
+use Rattle.bl_file.specs.Outlines.{IsSound}
+use Rattle.bl_writer.specs.Blocks.{head_at, kind_at, payload_length, block_length}
+use Rattle.bl_writer.specs.Rendering.{blocks_length, end_written}
+
+pub head_size-le : (h : Header) → head_size h ≤ 24
+head_size-le h = by h.width
+  where
+    by : (w : Width) → 16 + pointer_bytes w ≤ 24
+    by Four = omega arith
+    by Eight = omega arith
+
+pub head_size-ge : (h : Header) → 20 ≤ head_size h
+head_size-ge h = by h.width
+  where
+    by : (w : Width) → 20 ≤ 16 + pointer_bytes w
+    by Four = omega arith
+    by Eight = omega arith
+
+whole_pieces : (len w : ℕ) → len / w * w ≤ len
+whole_pieces len zero = omega arith
+whole_pieces len (suc w) = omega arith
+
+raw_within : (kind : RawKind) (len : ℕ) (w : Width) → raw_length kind len w w ≤ len
+raw_within Bytes len w = omega arith
+raw_within (Numbers n) len w = omega arith
+raw_within Pointers len w = whole_pieces len (pointer_bytes w)
+raw_within Pair len w = omega arith
+
+-- the tests of a node that has a struct
+passed : (raw bad short : Bool) (one two : NodeFault) → cond raw None (cond bad (Some one) (cond short (Some two) None)) ≡ None → raw ≡ false → short ≡ false
+passed true bad short one two none is = absurd (cc)
+passed false true short one two none is = absurd (cc)
+passed false false true one two none is = absurd (cc)
+passed false false false one two none is = refl
+
+by_index : (raw : Bool) (n m len : ℕ) → n ≤ len → (raw ≡ false → m ≤ len) → cond raw n m ≤ len
+by_index true n m len le else = le
+by_index false n m len le else = else refl
+
+payload_within : (o : Outline) (kind : RawKind) (x : Head) → node_fault o.layout.catalogue x ≡ None → payload_length o kind x ≤ x.len
+payload_within o kind x none =
+    let c = o.layout.catalogue in
+    by_index (x.index == 0) _ _ x.len (raw_within kind x.len o.header.width)
+    (λ is. ltb-false x.len (x.count * struct_length c x.index) (passed (x.index == 0) (nat_le (length c.structs) x.index) (nat_lt x.len (x.count * struct_length c x.index)) (BadStruct x.at) (ShortBlock x.at) none is))
+
+-- a block is shorter than 4 GiB
+pub block_length-lt : (o : Outline) (k : ℕ) → IsSound o → k < length o.nodes → block_length o k < 2 ^ 32
+block_length-lt o k sound lt =
+    let node = sound.nodes k no_head lt in
+    let own : payload_length o (kind_at o k) (head_at o k) ≤ (head_at o k).len = payload_within o (kind_at o k) (head_at o k) node.no_fault in
+    let head : head_size o.header ≤ 24 = head_size-le o.header in
+    let len : (head_at o k).len < 2 ^ 31 = node.len in
+    omega (arith, own, head, len)
+
+-- so all blocks together are short too
+pub blocks_length-le : (o : Outline) (k : ℕ) → IsSound o → k ≤ length o.nodes → blocks_length o k ≤ k * 2 ^ 32
+unfolding blocks_length
+blocks_length-le o zero sound le = omega arith
+blocks_length-le o (suc k) sound le =
+    let before : blocks_length o k ≤ k * 2 ^ 32 = blocks_length-le o k sound (omega (arith, le)) in
+    let own : block_length o k < 2 ^ 32 = block_length-lt o k sound (omega (arith, le)) in
+    omega (arith, before, own)
+
+pub blocks_length-more : (o : Outline) (k : ℕ) → blocks_length o (k + 1) ≡ blocks_length o k + block_length o k
+unfolding blocks_length
+blocks_length-more o k = let next : k + 1 ≡ suc k = omega arith in ap (blocks_length o) next
+
+-- the first blocks are no longer than all
+pub blocks_length-mono : (o : Outline) (k n : ℕ) → k ≤ n → blocks_length o k ≤ blocks_length o n
+unfolding blocks_length
+blocks_length-mono o k zero le = let same : k ≡ 0 = omega (arith, le) in rw same (omega arith)
+blocks_length-mono o k (suc n) le = elim (cases_lt n k) [
+  | inl above ↦ (let same : k ≡ suc n = omega (arith, le, above) in rw same (omega arith))
+  | inr below ↦ (let before : blocks_length o k ≤ blocks_length o n = blocks_length-mono o k n (omega (arith, below)) in omega (arith, before))
+]
+
+-- ---- what is written
+
+-- a head that can be written has its size
+pub length-head_written : (h : Header) (x : Head) → length x.code ≡ 4 → code_meant x.code ≡ x.code → length (head_written h x) ≡ head_size h
+unfolding head_written
+length-head_written h x len meant =
+    let code = code_written h.order x.code in
+    let w = pointer_bytes h.width in
+    let a = bytes_of h.order 4 x.len in
+    let b = bytes_of h.order w x.address in
+    let c = bytes_of h.order 4 x.index in
+    let d = bytes_of h.order 4 x.count in
+    omega (arith, (code_written_back h.order x.code len meant).length, length-append (((code ++ a) ++ b) ++ c) d, length-append ((code ++ a) ++ b) c, length-append (code ++ a) b, length-append code a, length-bytes_of h.order 4 x.len, length-bytes_of h.order w x.address, length-bytes_of h.order 4 x.index, length-bytes_of h.order 4 x.count)
+
+-- the block of a catalogue that is written so has its head's size and its own length
+pub length-catalogue : (h : Header) (written : List ℕ) → length (block_written h (codes "DNA1") 0 0 1 written) ≡ head_size h + length written
+length-catalogue h written =
+    let head : Head = record { code = codes "DNA1"; len = length written; address = 0; index = 0; count = 1; at = 0 } in
+    let own : length (head_written h head) ≡ head_size h = length-head_written h head refl refl in
+    length-append (head_written h head) written ∙ ap (λ n. n + length written) own
+
+-- the end has the size of a head
+pub length-end_written : (h : Header) → length (end_written h) ≡ head_size h
+length-end_written h =
+    let at_least : 20 ≤ head_size h = head_size-ge h in
+    length-append (codes "ENDB") (zeros (head_size h - 4)) ∙ omega (arith, at_least, length-replicate {A = ℕ} (head_size h - 4) 0)
+
+-- the end is the first bytes of the longest end, as many as a head has
+pub end_written-is : (h : Header) (n : ℕ) → n ≡ head_size h → take n (codes "ENDB" ++ zeros 20) ≡ end_written h
+end_written-is h n is = ap (λ m. take m (codes "ENDB" ++ zeros 20)) is ∙ by h.width
+  where
+    by : (w : Width) → take (16 + pointer_bytes w) (codes "ENDB" ++ zeros 20) ≡ codes "ENDB" ++ zeros (16 + pointer_bytes w - 4)
+    by Four = refl
+    by Eight = refl
+
+-- ---- measures
+
+pub blocks_length-none : (o : Outline) → 0 ≡ blocks_length o 0
+unfolding blocks_length
+blocks_length-none o = refl
+
+-- the most of the first k numbers, and of one more
+pub most_more : (f : ℕ → ℕ) (k own most next : ℕ) → own ≡ f k → next ≡ max own most → ((i : ℕ) → i < k → f i ≤ most) → (i : ℕ) → i < k + 1 → f i ≤ next
+most_more f k own most next own_is next_is below i lt = elim (cases_lt i k) [
+  | inl before ↦ (let le : f i ≤ most = below i before in omega (arith, le, next_is, le-max_right own most))
+  | inr here ↦ (let same : i ≡ k = omega (arith, here, lt) in rw same (omega (arith, own_is, next_is, le-max_left own most)))
+]

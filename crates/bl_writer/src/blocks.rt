@@ -1,0 +1,79 @@
+ghost use Rattle.std.specs.Prelude.{◌≡◌, ◌≢◌, ◌<◌, ◌≤◌, ◌^◌, length, None, OnOk, IsErrOf};
+ghost use Rattle.bl_shelf.specs.Causes.{HasCause};
+ghost use Rattle.bl_format.specs.Limits.{most_blocks};
+ghost use Rattle.bl_format.specs.Blocks.{head_size, head_written, code_meant};
+ghost use Rattle.bl_file.specs.Held.{IsHeldAnd};
+ghost use Rattle.bl_file.specs.Opening.{file_in};
+ghost use Rattle.bl_file.specs.Outlines.{IsSound, StandsFor};
+ghost use Rattle.bl_writer.specs.Blocks.{block_of, block_length, scratch_length};
+ghost use Rattle.bl_writer.specs.Payloads.{block_head};
+
+use crate::group_images::{GroupImages, node_address};
+use crate::nodes::head_at;
+use crate::payloads::write_payload;
+use bl_blocks::{head_size, write_head};
+use bl_file::{Outline, Payload};
+use bl_format::{Head, Header};
+use bl_shelf::{Shelf, ShelfFault};
+
+// Writes the head of a node's block, with its address in the output and the length of its payload.
+fn write_node_head(header: &Header, k: u32, head: Head, len: u64, dst: &mut [u8])
+    requires room { length dst.old ≡ head_size header.now }
+    requires code { code_meant head.code ≡ head.code }
+    requires index { head.index < 2 ^ 31 }
+    requires count { head.count < 2 ^ 31 }
+    requires len { len < 2 ^ 31 }
+    requires few { k < most_blocks }
+    ensures written { dst.new ≡ head_written header.now (block_head k head len) }
+    ensures length { length dst.new ≡ length dst.old }
+{
+    let code = head.code;
+    let own = Head {
+        code,
+        len,
+        address: node_address(k),
+        index: head.index,
+        count: head.count,
+        at: 0,
+    };
+    write_head(header, &own, dst);
+}
+
+/// Writes node `k` of an opened file as a block: its head with its new address, and its payload in
+/// which each pointer has the address that its target has in the output.
+pub fn write_block<S: Shelf, P: Payload>(
+    outline: &Outline,
+    payload: &mut P,
+    shelf: &mut S,
+    k: u32,
+    scratch: &mut [u8],
+    dst: &mut [u8],
+) -> Result<(), ShelfFault>
+    requires sound { IsSound outline.now }
+    requires size { P.file_size payload.old ≡ outline.now.size }
+    requires held { IsHeldAnd (S.told shelf.old) (P.file_name payload.old)
+        (λ b. P.agrees payload.old b × StandsFor b outline.now) }
+    requires k { k < length outline.now.nodes }
+    requires scratch { scratch_length outline.now k ≤ length scratch.old }
+    requires dst { length dst.old ≡ block_length outline.now k }
+    ensures written { OnOk result (IsHeldAnd (S.told shelf.old) (P.file_name payload.old)
+        (λ b. dst.new ≡ block_of (file_in b) k)) }
+    ensures length { length dst.new ≡ length dst.old }
+    ensures scratch { length scratch.new ≡ length scratch.old }
+    ensures name { P.file_name payload.new ≡ P.file_name payload.old }
+    ensures size { P.file_size payload.new ≡ P.file_size payload.old }
+    ensures held { IsHeldAnd (S.told shelf.old) (P.file_name payload.old)
+        (λ b. P.agrees payload.new b × StandsFor b outline.now) }
+    ensures told { S.told shelf.new ≡ S.told shelf.old }
+    ensures room { S.room shelf.new ≡ S.room shelf.old }
+    ensures cause { HasCause (S.faults shelf.old) (S.faults shelf.new)
+        (S.misses shelf.old) (S.misses shelf.new) result }
+    ensures absent { IsErrOf result ShelfFault.Absent → S.told shelf.old ≡ None }
+    ensures no_memory { result ≢ Err ShelfFault.NoMemory }
+{
+    let (own, body) = dst.split_at_mut(head_size(&outline.header));
+    let head = head_at(outline, k);
+    write_node_head(&outline.header, k, head, body.len() as u64, own);
+    let images = GroupImages::new(&outline.table, outline.table.group_of(k));
+    write_payload(outline, k, &images, payload, shelf, scratch, body)
+}
