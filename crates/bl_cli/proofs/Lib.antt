@@ -1,10 +1,7 @@
-pub mod ReadsBack
-pub mod AcceptedBack
-pub mod Outputs
 pub mod Opens
+pub mod Names
 pub mod Outcomes
 pub mod Gathers
-pub mod Conversions
 pub mod Refusals
 pub mod Acceptance
 pub mod Runs

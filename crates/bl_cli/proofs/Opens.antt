@@ -1,25 +1,20 @@
--- How what is read of an input decides its checks.
-use Rattle.std.proofs.Common.{◌≡◌, ◌≤◌, ◌⊎◌, inl, inr, List, [], ◌∷◌, ◌++◌, length, ℕ, Option, Some, None, Result, Ok, Err, refl, sym, subst, ◌∙◌, ap}
-use Rattle.std.specs.Prelude.{IfSome, OnOk, unwrap_or, is_none, nat_lt}
-use Rattle.std.specs.Option.{option_or}
-use Rattle.std.specs.Result.{result_err}
-use Rattle.std.specs.FinMap.{get}
-use Rattle.std.proofs.lemmas.Bool.{le-ltb}
-use Rattle.bl_num.specs.declared.number.Width.{Width}
-use Rattle.bl_format.specs.declared.catalogue.Catalogue.{Catalogue}
-use Rattle.bl_format.specs.declared.catalogue.SdnaFault.{SdnaFault}
-use Rattle.bl_format.specs.declared.layout.LayoutFault.{LayoutFault}
+-- How a file that is opened, or a fault of it, decides the checks of an input.
+use Rattle.std.proofs.Common.{◌≡◌, ◌≤◌, ◌⊎◌, inl, inr, List, [], ◌∷◌, ℕ, Option, Some, None, Result, Ok, Err, refl, sym, subst, ap, arith}
+use Rattle.std.specs.Prelude.{IfSome, IfErr, option_map}
+use Rattle.bl_format.specs.declared.file.HeadFault.TheVariants as head
+use Rattle.bl_format.specs.declared.file.BlockFault.TheVariants as block
+use Rattle.bl_format.specs.declared.catalogue.SdnaFault.TheVariants as sdna
 use Rattle.bl_format.specs.declared.layout.LayoutFault.TheVariants as layout
-use Rattle.bl_format.specs.Layout.{layout_fault, struct_name}
-use Rattle.bl_format.specs.Limits.{most_input_bytes}
 use Rattle.bl_commands.specs.declared.ending.Ending.{Ending}
 use Rattle.bl_commands.specs.declared.ending.Ending.TheVariants as endings
 use Rattle.bl_commands.specs.Checks.{first_ending}
-use Rattle.bl_shelf.specs.Told.{Told, Held, bytes_under}
-use Rattle.bl_cli.specs.Opening.{layout_refusal, catalogue_checks, opening_checks, format_checks, input_checks}
-use Rattle.bl_cli.specs.Run.{BlamesRisen, IsChecked, BlamesNothing}
-
--- ---- endings
+use Rattle.bl_shelf.specs.Told.{Told, bytes_under}
+use Rattle.bl_file.specs.declared.fault.OpenFault.{OpenFault}
+use Rattle.bl_file.specs.declared.fault.OpenFault.TheVariants as opens
+use Rattle.bl_file.specs.Opening.{open_fault}
+use Rattle.bl_file.specs.Outlines as files
+use Rattle.bl_cli.specs.Opening.{open_ending, input_checks}
+use Rattle.bl_cli.specs.Run.{BlamesRisen, IsCaused, IsChecked, IsNotUsage, NamesInput}
 
 -- an ending that a check gives is that of the first check
 pub checked_itself : (e : Ending) → IsChecked (Some e) e
@@ -33,87 +28,175 @@ checked_itself (endings.FloatCast owner member) = refl
 checked_itself (endings.PastLimit quantity count) = refl
 checked_itself endings.Sink = tt
 
--- an ending of some checks is one of more checks, which give it too
-pub checked_along : (first more : Option Ending) (ending : Ending) → ((e : Ending) → first ≡ Some e → more ≡ Some e) → IsChecked first ending → IsChecked more ending
-checked_along first more endings.NoCommand goes is = goes _ is
-checked_along first more endings.NoMemory goes is = tt
-checked_along first more (endings.Absent file) goes is = goes _ is
-checked_along first more endings.Device goes is = tt
-checked_along first more (endings.BadFile file fault) goes is = goes _ is
-checked_along first more (endings.Missing lack) goes is = goes _ is
-checked_along first more (endings.FloatCast owner member) goes is = goes _ is
-checked_along first more (endings.PastLimit quantity count) goes is = goes _ is
-checked_along first more endings.Sink goes is = tt
+-- ---- the ending of a fault
 
--- an ending that blames no count
-pub blames_none : (e : Ending) → BlamesNothing e → (misses misses' faults faults' puts puts' : ℕ) → BlamesRisen e misses misses' faults faults' puts puts'
-blames_none endings.NoCommand inside misses misses' faults faults' puts puts' = tt
-blames_none endings.NoMemory inside misses misses' faults faults' puts puts' = tt
-blames_none (endings.Absent file) inside misses misses' faults faults' puts puts' = absurd inside
-blames_none endings.Device inside misses misses' faults faults' puts puts' = absurd inside
-blames_none (endings.BadFile file fault) inside misses misses' faults faults' puts puts' = tt
-blames_none (endings.Missing lack) inside misses misses' faults faults' puts puts' = tt
-blames_none (endings.FloatCast owner member) inside misses misses' faults faults' puts puts' = tt
-blames_none (endings.PastLimit quantity count) inside misses misses' faults faults' puts puts' = tt
-blames_none endings.Sink inside misses misses' faults faults' puts puts' = absurd inside
+-- the words didn't give it
+fault_not_usage : (file : List ℕ) (fault : OpenFault) → IsNotUsage (open_ending file fault)
+fault_not_usage file opens.NoMemory = tt
+fault_not_usage file opens.Absent = tt
+fault_not_usage file opens.Device = tt
+fault_not_usage file (opens.TooLarge n) = tt
+fault_not_usage file (opens.Head head.Compressed) = tt
+fault_not_usage file (opens.Head head.BadMagic) = tt
+fault_not_usage file (opens.Head (head.BadMark n)) = tt
+fault_not_usage file (opens.Head (head.BadVersion n)) = tt
+fault_not_usage file (opens.Block (block.Truncated n)) = tt
+fault_not_usage file (opens.Block (block.NegativeLength n)) = tt
+fault_not_usage file (opens.Block (block.NegativeIndex n)) = tt
+fault_not_usage file (opens.Block (block.NegativeCount n)) = tt
+fault_not_usage file (opens.Block (block.TooManyBlocks n)) = tt
+fault_not_usage file (opens.Block block.NoMemory) = tt
+fault_not_usage file opens.NoCatalogue = tt
+fault_not_usage file (opens.TwoCatalogues n) = tt
+fault_not_usage file (opens.Sdna (sdna.BadTag n)) = tt
+fault_not_usage file (opens.Sdna (sdna.CutShort n)) = tt
+fault_not_usage file (opens.Sdna (sdna.BadIndex n)) = tt
+fault_not_usage file (opens.Sdna (sdna.TwoTypes n)) = tt
+fault_not_usage file (opens.Sdna (sdna.TwoStructs n)) = tt
+fault_not_usage file (opens.Sdna sdna.NoMemory) = tt
+fault_not_usage file (opens.Layout (layout.BadName s k) owner member) = tt
+fault_not_usage file (opens.Layout (layout.BasicLength s k) owner member) = tt
+fault_not_usage file (opens.Layout (layout.Overrun s k) owner member) = tt
+fault_not_usage file (opens.Layout (layout.Cyclic s k) owner member) = tt
+fault_not_usage file (opens.Layout (layout.DuplicateMember s k) owner member) = tt
+fault_not_usage file (opens.Layout (layout.TooDeep n) owner member) = tt
+fault_not_usage file (opens.Layout (layout.TooManyLeaves n) owner member) = tt
+fault_not_usage file (opens.Layout (layout.TooLong n) owner member) = tt
+fault_not_usage file (opens.Layout layout.NoMemory owner member) = tt
+fault_not_usage file (opens.BadStruct n) = tt
+fault_not_usage file (opens.ShortBlock n) = tt
 
--- ---- a layout's fault
+-- a file that it says isn't held is this one
+fault_names : (file : List ℕ) (fault : OpenFault) → NamesInput file (open_ending file fault)
+fault_names file opens.NoMemory = tt
+fault_names file opens.Absent = refl
+fault_names file opens.Device = tt
+fault_names file (opens.TooLarge n) = tt
+fault_names file (opens.Head head.Compressed) = tt
+fault_names file (opens.Head head.BadMagic) = tt
+fault_names file (opens.Head (head.BadMark n)) = tt
+fault_names file (opens.Head (head.BadVersion n)) = tt
+fault_names file (opens.Block (block.Truncated n)) = tt
+fault_names file (opens.Block (block.NegativeLength n)) = tt
+fault_names file (opens.Block (block.NegativeIndex n)) = tt
+fault_names file (opens.Block (block.NegativeCount n)) = tt
+fault_names file (opens.Block (block.TooManyBlocks n)) = tt
+fault_names file (opens.Block block.NoMemory) = tt
+fault_names file opens.NoCatalogue = tt
+fault_names file (opens.TwoCatalogues n) = tt
+fault_names file (opens.Sdna (sdna.BadTag n)) = tt
+fault_names file (opens.Sdna (sdna.CutShort n)) = tt
+fault_names file (opens.Sdna (sdna.BadIndex n)) = tt
+fault_names file (opens.Sdna (sdna.TwoTypes n)) = tt
+fault_names file (opens.Sdna (sdna.TwoStructs n)) = tt
+fault_names file (opens.Sdna sdna.NoMemory) = tt
+fault_names file (opens.Layout (layout.BadName s k) owner member) = tt
+fault_names file (opens.Layout (layout.BasicLength s k) owner member) = tt
+fault_names file (opens.Layout (layout.Overrun s k) owner member) = tt
+fault_names file (opens.Layout (layout.Cyclic s k) owner member) = tt
+fault_names file (opens.Layout (layout.DuplicateMember s k) owner member) = tt
+fault_names file (opens.Layout (layout.TooDeep n) owner member) = tt
+fault_names file (opens.Layout (layout.TooManyLeaves n) owner member) = tt
+fault_names file (opens.Layout (layout.TooLong n) owner member) = tt
+fault_names file (opens.Layout layout.NoMemory owner member) = tt
+fault_names file (opens.BadStruct n) = tt
+fault_names file (opens.ShortBlock n) = tt
 
--- a layout's fault is the input's own
-refusal_inside : (file : List ℕ) (c : Catalogue) (fault : LayoutFault) → BlamesNothing (layout_refusal file c fault)
-unfolding layout_refusal
-refusal_inside file c (layout.BadName s k) = tt
-refusal_inside file c (layout.BasicLength s k) = tt
-refusal_inside file c (layout.Overrun s k) = tt
-refusal_inside file c (layout.Cyclic s k) = tt
-refusal_inside file c (layout.DuplicateMember s k) = tt
-refusal_inside file c (layout.TooDeep n) = tt
-refusal_inside file c (layout.TooManyLeaves n) = tt
-refusal_inside file c (layout.TooLong n) = tt
-refusal_inside file c layout.NoMemory = tt
+-- the count that it blames is the one that the fault blames
+fault_blames : (file : List ℕ) (fault : OpenFault) (faults faults' misses misses' : ℕ) → files.BlamesRisen fault faults faults' misses misses'
+    → BlamesRisen (open_ending file fault) misses misses' faults faults' 0 0
+fault_blames file opens.NoMemory f f' m m' is = tt
+fault_blames file opens.Absent f f' m m' is = is
+fault_blames file opens.Device f f' m m' is = is
+fault_blames file (opens.TooLarge n) f f' m m' is = tt
+fault_blames file (opens.Head head.Compressed) f f' m m' is = tt
+fault_blames file (opens.Head head.BadMagic) f f' m m' is = tt
+fault_blames file (opens.Head (head.BadMark n)) f f' m m' is = tt
+fault_blames file (opens.Head (head.BadVersion n)) f f' m m' is = tt
+fault_blames file (opens.Block (block.Truncated n)) f f' m m' is = tt
+fault_blames file (opens.Block (block.NegativeLength n)) f f' m m' is = tt
+fault_blames file (opens.Block (block.NegativeIndex n)) f f' m m' is = tt
+fault_blames file (opens.Block (block.NegativeCount n)) f f' m m' is = tt
+fault_blames file (opens.Block (block.TooManyBlocks n)) f f' m m' is = tt
+fault_blames file (opens.Block block.NoMemory) f f' m m' is = tt
+fault_blames file opens.NoCatalogue f f' m m' is = tt
+fault_blames file (opens.TwoCatalogues n) f f' m m' is = tt
+fault_blames file (opens.Sdna (sdna.BadTag n)) f f' m m' is = tt
+fault_blames file (opens.Sdna (sdna.CutShort n)) f f' m m' is = tt
+fault_blames file (opens.Sdna (sdna.BadIndex n)) f f' m m' is = tt
+fault_blames file (opens.Sdna (sdna.TwoTypes n)) f f' m m' is = tt
+fault_blames file (opens.Sdna (sdna.TwoStructs n)) f f' m m' is = tt
+fault_blames file (opens.Sdna sdna.NoMemory) f f' m m' is = tt
+fault_blames file (opens.Layout (layout.BadName s k) owner member) f f' m m' is = tt
+fault_blames file (opens.Layout (layout.BasicLength s k) owner member) f f' m m' is = tt
+fault_blames file (opens.Layout (layout.Overrun s k) owner member) f f' m m' is = tt
+fault_blames file (opens.Layout (layout.Cyclic s k) owner member) f f' m m' is = tt
+fault_blames file (opens.Layout (layout.DuplicateMember s k) owner member) f f' m m' is = tt
+fault_blames file (opens.Layout (layout.TooDeep n) owner member) f f' m m' is = tt
+fault_blames file (opens.Layout (layout.TooManyLeaves n) owner member) f f' m m' is = tt
+fault_blames file (opens.Layout (layout.TooLong n) owner member) f f' m m' is = tt
+fault_blames file (opens.Layout layout.NoMemory owner member) f f' m m' is = tt
+fault_blames file (opens.BadStruct n) f f' m m' is = tt
+fault_blames file (opens.ShortBlock n) f f' m m' is = tt
 
-pub layout_inside : (file : List ℕ) (c : Catalogue) (fault : LayoutFault) (e : Ending) → (e ≡ layout_refusal file c fault) ⊎ (e ≡ endings.NoMemory) → BlamesNothing e
-layout_inside file c fault e (inl is) = subst BlamesNothing (sym is) (refusal_inside file c fault)
-layout_inside file c fault e (inr none) = subst BlamesNothing (sym none) tt
+-- ---- a fault and the ending that tells of it, unless memory is wanted for that
 
-no_memory : (file : List ℕ) (c : Catalogue) → layout_refusal file c layout.NoMemory ≡ endings.NoMemory
-unfolding layout_refusal
-no_memory file c = refl
+-- the ending tells of the fault
+abbrev Tells : List ℕ → OpenFault → Ending → Type 0
+Tells file fault e = (e ≡ open_ending file fault) ⊎ (e ≡ endings.NoMemory)
 
-pub layout_checked : (file : List ℕ) (w : Width) (c : Catalogue) (read : Result Catalogue SdnaFault) (fault : LayoutFault) (e : Ending) → read ≡ Ok c
-    → (e ≡ layout_refusal file c fault) ⊎ (e ≡ endings.NoMemory) → (fault ≡ layout.NoMemory) ⊎ (layout_fault c w ≡ Some fault)
-    → IsChecked (first_ending (catalogue_checks file w read)) e
-layout_checked file w c read fault e reads (inr none) why = subst (IsChecked (first_ending (catalogue_checks file w read))) (sym none) tt
-layout_checked file w c read fault e reads (inl is) (inl memory) =
-    subst (IsChecked (first_ending (catalogue_checks file w read))) (sym (is ∙ ap (layout_refusal file c) memory ∙ no_memory file c)) tt
-layout_checked file w c read fault e reads (inl is) (inr has) =
-    rw (reads, has, is) (checked_itself (layout_refusal file c fault))
+pub told_not_usage : (file : List ℕ) (fault : OpenFault) (e : Ending) → Tells file fault e → IsNotUsage e
+told_not_usage file fault e (inl is) = subst IsNotUsage (sym is) (fault_not_usage file fault)
+told_not_usage file fault e (inr none) = subst IsNotUsage (sym none) tt
 
--- ---- the checks of an input
+pub told_names : (file : List ℕ) (fault : OpenFault) (e : Ending) → Tells file fault e → NamesInput file e
+told_names file fault e (inl is) = subst (NamesInput file) (sym is) (fault_names file fault)
+told_names file fault e (inr none) = subst (NamesInput file) (sym none) tt
 
-first_ending-append : (xs ys : List (Option Ending)) → first_ending (xs ++ ys) ≡ option_or (first_ending xs) (first_ending ys)
-first_ending-append [] ys = refl
-first_ending-append (None ∷ xs) ys = first_ending-append xs ys
-first_ending-append (Some e ∷ xs) ys = refl
+told_blames : (file : List ℕ) (fault : OpenFault) (e : Ending) (faults faults' misses misses' : ℕ) → Tells file fault e → files.BlamesRisen fault faults faults' misses misses'
+    → BlamesRisen e misses misses' faults faults' 0 0
+told_blames file fault e f f' m m' (inl is) blames = subst (λ (x : Ending). BlamesRisen x m m' f f' 0 0) (sym is) (fault_blames file fault f f' m m' blames)
+told_blames file fault e f f' m m' (inr none) blames = subst (λ (x : Ending). BlamesRisen x m m' f f' 0 0) (sym none) tt
 
--- where the file's opening gives an ending, that is the first
-opening_ends : (held : Held) (input : List ℕ) (e : Ending) → first_ending (opening_checks input (get held input)) ≡ Some e → first_ending (input_checks held input) ≡ Some e
-opening_ends held input e is = rw (first_ending-append (opening_checks input (get held input)) (format_checks input (unwrap_or (get held input) [])), is) refl
+-- counts that a fault blames are those that the ending blames
+pub told_caused : {T U : Type 0} (file : List ℕ) (fault : OpenFault) (e : Ending) (faults faults' misses misses' : ℕ) → Tells file fault e
+    → files.HasOpenCause {T = T} faults faults' misses misses' (Err fault) → IsCaused {T = U} misses misses' faults faults' 0 0 (Err e)
+told_caused file fault e f f' m m' tells cause = record {
+  later_misses = cause.misses_grow;
+  later_faults = cause.faults_grow;
+  later_puts = omega arith;
+  blamed = told_blames file fault e f f' m m' tells cause.blamed;
+}
 
--- where the file is held and not too long, the checks of its bytes decide
-pub opened : (held : Held) (input b : List ℕ) → get held input ≡ Some b → length b ≤ most_input_bytes → first_ending (input_checks held input) ≡ first_ending (format_checks input b)
-opened held input b is small = rw (is, le-ltb most_input_bytes (length b) small) refl
+first_told : (o : Option OpenFault) (file : List ℕ) (fault : OpenFault) → o ≡ Some fault → IsChecked (first_ending (option_map (open_ending file) o ∷ [])) (open_ending file fault)
+first_told o file fault is = rw is (checked_itself (open_ending file fault))
 
--- ---- the same of a shelf that may tell
+-- the first fault gives the first ending
+first_checked : (o : Option OpenFault) (file : List ℕ) (fault : OpenFault) → files.IsFirst o fault → IsChecked (first_ending (option_map (open_ending file) o ∷ [])) (open_ending file fault)
+first_checked o file opens.NoMemory is = tt
+first_checked o file opens.Device is = tt
+first_checked o file opens.Absent is = first_told o file opens.Absent is
+first_checked o file (opens.TooLarge n) is = first_told o file (opens.TooLarge n) is
+first_checked o file (opens.Head fault) is = first_told o file (opens.Head fault) is
+first_checked o file (opens.Block fault) is = first_told o file (opens.Block fault) is
+first_checked o file opens.NoCatalogue is = first_told o file opens.NoCatalogue is
+first_checked o file (opens.TwoCatalogues n) is = first_told o file (opens.TwoCatalogues n) is
+first_checked o file (opens.Sdna fault) is = first_told o file (opens.Sdna fault) is
+first_checked o file (opens.Layout fault owner member) is = first_told o file (opens.Layout fault owner member) is
+first_checked o file (opens.BadStruct n) is = first_told o file (opens.BadStruct n) is
+first_checked o file (opens.ShortBlock n) is = first_told o file (opens.ShortBlock n) is
 
-pub opening_checked : (told : Option Told) (input : List ℕ) (e : Ending) → IfSome told (λ t. IsChecked (first_ending (opening_checks input (bytes_under input t))) e) → IfSome told (λ t. IsChecked (first_ending (input_checks t.held input)) e)
-opening_checked None input e is = tt
-opening_checked (Some t) input e is = checked_along _ _ e (opening_ends t.held input) is
+told_checked : (o : Option OpenFault) (file : List ℕ) (fault : OpenFault) (e : Ending) → Tells file fault e → files.IsFirst o fault → IsChecked (first_ending (option_map (open_ending file) o ∷ [])) e
+told_checked o file fault e (inl is) first = subst (IsChecked (first_ending (option_map (open_ending file) o ∷ []))) (sym is) (first_checked o file fault first)
+told_checked o file fault e (inr none) first = subst (IsChecked (first_ending (option_map (open_ending file) o ∷ []))) (sym none) tt
 
-pub format_checked : (told : Option Told) (input b : List ℕ) (e : Ending) → IfSome told (λ t. bytes_under input t ≡ Some b) → length b ≤ most_input_bytes → IsChecked (first_ending (format_checks input b)) e → IfSome told (λ t. IsChecked (first_ending (input_checks t.held input)) e)
-format_checked None input b e is small ends = tt
-format_checked (Some t) input b e is small ends = checked_along _ _ e (λ x same. opened t.held input b is small ∙ same) ends
+-- the same of a shelf that may tell
+pub input_checked : (told : Option Told) (file : List ℕ) (fault : OpenFault) (e : Ending) → Tells file fault e
+    → IfSome told (λ t. files.IsFirst (open_fault 0 (bytes_under file t)) fault) → IfSome told (λ t. IsChecked (first_ending (input_checks t.held file)) e)
+input_checked None file fault e tells first = tt
+input_checked (Some t) file fault e tells first = told_checked (open_fault 0 (bytes_under file t)) file fault e tells first
 
-pub format_passes : (told : Option Told) (input b : List ℕ) → IfSome told (λ t. bytes_under input t ≡ Some b) → length b ≤ most_input_bytes → first_ending (format_checks input b) ≡ None → IfSome told (λ t. first_ending (input_checks t.held input) ≡ None)
-format_passes None input b is small all = tt
-format_passes (Some t) input b is small all = opened t.held input b is small ∙ all
+-- where no fault stands, the checks pass
+pub input_passes : (told : Option Told) (file : List ℕ) → IfSome told (λ t. open_fault 0 (bytes_under file t) ≡ None) → IfSome told (λ t. first_ending (input_checks t.held file) ≡ None)
+input_passes None file passes = tt
+input_passes (Some t) file passes = rw passes refl

@@ -1,4 +1,3 @@
-pub mod RawOutput
 pub mod Opening
 pub mod Outcome
 pub mod Run

@@ -2,7 +2,9 @@
 use Rattle.std.specs.Prelude.{ℕ, List, length, map, String, Option, Some, None, Result, Ok, Err}
 use Rattle.std.specs.String.{string_bytes}
 use Rattle.std.specs.declared.alloc.Global.{Global}
-use Rattle.bl_format.specs.Nodes.{nodes_in}
+use Rattle.bl_format.specs.Graph.{Node}
+use Rattle.bl_selection.specs.Selection.{rebuilt_graph}
+use Rattle.bl_selection.specs.Written.{written_form}
 use Rattle.bl_commands.specs.declared.command.Command.{Command}
 use Rattle.bl_commands.specs.declared.command.Command.TheVariants.{Convert, Schema}
 use Rattle.bl_commands.specs.declared.ending.Ending.{Ending}
@@ -12,8 +14,8 @@ use Rattle.bl_commands.specs.Texts.{Text, summary_line}
 use Rattle.bl_commands.specs.Checks.{first_ending}
 use Rattle.bl_answers.specs.Printed.{schema_text}
 use Rattle.bl_shelf.specs.Told.{Held, Staged, files_with}
-use Rattle.bl_cli.specs.RawOutput.{raw_output}
-use Rattle.bl_cli.specs.Opening.{header_in, blocks_in, catalogue_in, file_in, bytes_held, input_checks}
+use Rattle.bl_file.specs.Opening.{header_in, catalogue_in, file_in}
+use Rattle.bl_cli.specs.Opening.{bytes_held, input_checks}
 
 -- what a command does: it holds a file, if it makes one, and puts a text
 pub record Effect : Type 0 where
@@ -31,14 +33,22 @@ unless_ending None effect = Ok effect
 
 -- ---- convert
 
+-- the graph that convert writes of its input's bytes: what is rebuilt of it under its own header and catalogue
+abbrev pub convert_graph : List ℕ → List Node
+convert_graph b = rebuilt_graph (file_in b) (header_in b) (catalogue_in b)
+
+-- the bytes that convert writes
+abbrev pub convert_bytes : List ℕ → List ℕ
+convert_bytes b = written_form (header_in b) (catalogue_in b) (convert_graph b)
+
 -- the line of convert on its input's bytes
 abbrev pub convert_line : List ℕ → Text
-convert_line b = summary_line (length (nodes_in (blocks_in b))) (length (raw_output (file_in b)))
+convert_line b = summary_line (length (convert_graph b)) (length (convert_bytes b))
 
 -- the effect of convert on its input's bytes, under the word OUT
 abbrev pub convert_effect : List ℕ → List ℕ → Effect
 convert_effect b out = record {
-  file = Some (record { name = out; bytes = raw_output (file_in b) });
+  file = Some (record { name = out; bytes = convert_bytes b });
   text = convert_line b;
 }
 

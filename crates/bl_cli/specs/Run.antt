@@ -1,14 +1,14 @@
 -- What the clauses of a run say: of the files, of the lines, and of the status.
-use Rattle.std.specs.Prelude.{◌≡◌, ◌⊎◌, ⊤, ℕ, ◌≤◌, ◌==◌, if◌then◌else◌, List, [], ◌++◌, length, take, Option, Some, Result, Ok, Err, IfErr, IsOkAnd}
+use Rattle.std.specs.Prelude.{◌≡◌, ◌⊎◌, ⊤, ℕ, ◌≤◌, ◌==◌, if◌then◌else◌, List, [], ◌++◌, length, take, Option, Some, option_map, Result, Ok, Err, IfErr, IsOkAnd}
 use Rattle.bl_commands.specs.declared.ending.Ending.{Ending}
-use Rattle.bl_commands.specs.declared.ending.Ending.TheVariants.{NoCommand, NoMemory, Absent, Device, BadFile, Sink}
-use Rattle.bl_commands.specs.declared.ending.FileFault.{FileFault}
+use Rattle.bl_commands.specs.declared.ending.Ending.TheVariants.{NoCommand, NoMemory, Absent, Device, Sink}
 use Rattle.bl_commands.specs.declared.command.Command.{Command}
 use Rattle.bl_commands.specs.declared.command.Command.TheVariants.{Convert, Schema}
+use Rattle.bl_commands.specs.Commands.{convert_options}
 use Rattle.bl_commands.specs.Texts.{Text, status_of, fault_line}
 use Rattle.bl_shelf.specs.declared.shelf.ShelfFault.{ShelfFault}
 use Rattle.bl_shelf.specs.declared.shelf.ShelfFault.TheVariants as shelf
-use Rattle.bl_shelf.specs.Told.{Held, with_file}
+use Rattle.bl_shelf.specs.Told.{Held, Told, abandon_in, commit_in}
 use Rattle.bl_shelf.specs.Causes.{Rose}
 use Rattle.bl_shelf.specs.Written.{Grows, GrowsByPrefix}
 use Rattle.bl_cli.specs.Outcome.{Effect, files_with_effect}
@@ -42,15 +42,10 @@ IsReadingEnding shelf.Absent name ending = (ending ≡ Absent name) ⊎ (ending 
 IsReadingEnding shelf.Failed name ending = ending ≡ Device
 IsReadingEnding shelf.NoMemory name ending = ending ≡ NoMemory
 
--- what a file that is refused ends a run with, unless memory is wanted
-abbrev pub IsRefusal : List ℕ → FileFault → Ending → Type 0
-IsRefusal name fault ending = (ending ≡ BadFile name fault) ⊎ (ending ≡ NoMemory)
-
--- what a fault of a call that stores a file ends a run with; it is never `Absent`
-abbrev pub storing_ending : ShelfFault → Ending
-storing_ending shelf.Absent = Device
-storing_ending shelf.Failed = Device
-storing_ending shelf.NoMemory = NoMemory
+-- the file that an ending says isn't held is the input
+abbrev pub NamesInput : List ℕ → Ending → Type 0
+NamesInput input (Absent file) = file ≡ input
+NamesInput input _ = ⊤
 
 -- memory, a device or the sink gave the ending
 abbrev pub ComesFromOutside : Ending → Type 0
@@ -58,14 +53,6 @@ ComesFromOutside NoMemory = ⊤
 ComesFromOutside Device = ⊤
 ComesFromOutside Sink = ⊤
 ComesFromOutside _ = ⊥
-
--- neither the words, nor a miss, nor a device, nor the sink gave the ending
-abbrev pub BlamesNothing : Ending → Type 0
-BlamesNothing NoCommand = ⊥
-BlamesNothing (Absent file) = ⊥
-BlamesNothing Device = ⊥
-BlamesNothing Sink = ⊥
-BlamesNothing _ = ⊤
 
 -- the words didn't give the ending
 abbrev pub IsNotUsage : Ending → Type 0
@@ -76,18 +63,18 @@ IsNotUsage _ = ⊤
 abbrev pub IsUsageOrNoMemory : Result (Unit {0}) Ending → Type 0
 IsUsageOrNoMemory result = (result ≡ Err NoCommand) ⊎ (result ≡ Err NoMemory)
 
--- a command that this program has today; the words spell no other
+-- a command that this program has today, where convert is given no option; the words spell no other
 abbrev pub IsBuilt : Command → Type 0
-IsBuilt (Convert input out options) = ⊤
+IsBuilt (Convert input out options) = options ≡ convert_options []
 IsBuilt (Schema input) = ⊤
 IsBuilt _ = ⊥
 
 -- ---- what is stored
 
--- the files are as before; or, where a device failed the commit, the file is stored
-abbrev pub IsUnstored : List ℕ → List ℕ → Option Held → Option Held → Ending → Type 0
-IsUnstored name bytes held held' ending =
-    (held' ≡ held) ⊎ ((ending ≡ Device) × (held' ≡ with_file name bytes held))
+-- what was staged is forgotten; or, where a device failed the commit, it is held
+abbrev pub IsUncommitted : Option Told → Option Told → Ending → Type 0
+IsUncommitted told told' ending =
+    (told' ≡ option_map abandon_in told) ⊎ ((ending ≡ Device) × (told' ≡ option_map commit_in told))
 
 -- ---- what is done
 

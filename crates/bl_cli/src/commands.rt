@@ -126,9 +126,10 @@ fn conclude<O: Sink>(alloc: Global, done: Result<(), Ending>, out: &mut O) -> u8
 /// device of the shelf failed; 6 where the input is refused; 9 where it passes a limit; 10 where
 /// the sink failed.
 ///
-/// The line of a conversion is put before the output is committed. Every run but one that ends with
-/// 0 or 10 puts a line of what ended it. After 0 the output of a conversion is held; after 3 and 5
-/// it may be, where the commit itself failed; after all others, and whatever is printed, what is
+/// The line of a conversion is put before the output is committed. A run that ends with another
+/// status than 0 and 10 puts a line of what ended it; after 3, and where the sink fails, a part of
+/// that line or all of it may be missing. After 0 the output of a conversion is held; after 3 and
+/// 5 it may be, where the commit itself failed; after all others, and whatever is printed, what is
 /// held is what was.
 pub fn run<S: Shelf, O: Sink>(alloc: Global, words: &[String], shelf: &mut S, out: &mut O) -> u8
     requires { S.room shelf.old ≡ None }

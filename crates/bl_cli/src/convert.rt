@@ -1,64 +1,56 @@
 // Converts a file in its own form.
-ghost use Rattle.std.specs.Prelude.{◌≡◌, ℕ, List, None, Some, Ok, OnOk, OnErr, IfOk, IfErr, IfSome};
+ghost use Rattle.std.specs.Prelude.{◌≡◌, None, OnOk, OnErr, IfOk, IfErr, IfSome, IsSome};
 ghost use Rattle.std.specs.Result.{result_err};
 ghost use Rattle.bl_shelf.specs.Told.{held_of};
 ghost use Rattle.bl_shelf.specs.Written.{GrowsByPrefix};
-ghost use Rattle.bl_cli.specs.Opening.{IsOpened};
 ghost use Rattle.bl_cli.specs.Outcome.{convert_outcome};
-ghost use Rattle.bl_cli.specs.Accomplished.{IsCommitted, IsConvertedFrom};
-ghost use Rattle.bl_cli.specs.Prepared.{IsOutputOf};
-ghost use Rattle.bl_cli.specs.Run.{IsCaused, IsChecked, IsDone, IsLeft, IsNotUsage, own_text};
+ghost use Rattle.bl_cli.specs.Accomplished.{IsCommitted};
+ghost use Rattle.bl_cli.specs.Prepared.{IsStaged};
+ghost use Rattle.bl_cli.specs.Run.{IsCaused, IsChecked, IsDone, IsLeft, IsNotUsage, NamesInput, own_text};
 
-use crate::files::store;
-use crate::opened::{Opened, open};
-use crate::raw_output::raw_output;
+use crate::files::{commit, reading_ending};
+use crate::opened::open_input;
 use bl_commands::Ending;
+use bl_file::{Payload, WholePayload};
 use bl_lines::summary_line;
-use bl_num::NoMemory;
 use bl_shelf::{Shelf, Sink};
+use bl_writer::render_own;
 use std::alloc::Global;
 
-/// A file that is to be stored, and the line that tells of it.
-#[derive(Drop)]
-pub struct Output {
-    pub bytes: Vec<u8>,
-    pub line: Vec<u8>,
-}
-
-// What becomes of an opened file.
-fn output_of(alloc: Global, file: &Opened) -> Result<Output, NoMemory>
-    requires { IsOpened file.now }
-    ensures { IfOk result (IsOutputOf file.now.bytes.items) }
-{
-    let bytes = raw_output(alloc, file)?;
-    let nodes = file.nodes.as_slice().len();
-    let line = summary_line(alloc, nodes as u64, bytes.len() as u64)?;
-    Ok(Output { bytes, line })
-}
-
-// Opens an input, and says what becomes of it.
-fn prepare<S: Shelf>(alloc: Global, input: &str, shelf: &mut S) -> Result<Output, Ending>
-    ensures told { S.told shelf.new ≡ S.told shelf.old }
-    ensures room { S.room shelf.new ≡ S.room shelf.old }
-    ensures known { IfOk result (λ output. IfSome (S.told shelf.old) (λ t. (name : List ℕ)
-        → convert_outcome t.held input.now name ≡ Ok (record {
-          file = Some (record { name = name; bytes = output.bytes.items });
-          text = output.line.items;
-        }))) }
-    ensures converted { IfOk result (λ output. IfSome (S.told shelf.old) (λ t.
-        IsConvertedFrom t.held input.now output.bytes.items)) }
-    ensures checked { IfErr result (λ ending. IfSome (S.told shelf.old) (λ t. (name : List ℕ)
-        → IsChecked (result_err (convert_outcome t.held input.now name)) ending)) }
+// Stages what becomes of the file `input` under a name, and gives the line that tells of it.
+fn stage_conversion<S: Shelf, P: Payload>(
+    alloc: Global,
+    input: &str,
+    name: &str,
+    shelf: &mut S,
+) -> Result<Vec<u8>, Ending>
+    requires { S.room shelf.old ≡ None }
+    ensures room { OnOk result (IsSome (S.room shelf.new)) }
+    ensures room_err { OnErr result (S.room shelf.new ≡ None) }
+    ensures staged { IfOk result (λ line. IfSome (S.told shelf.old) (λ t.
+        IsStaged t input.now name.now line.items (S.told shelf.new))) }
+    ensures held_err { OnErr result (held_of (S.told shelf.new) ≡ held_of (S.told shelf.old)) }
+    ensures checked { IfErr result (λ ending. IfSome (S.told shelf.old) (λ t.
+        IsChecked (result_err (convert_outcome t.held input.now name.now)) ending)) }
     ensures cause { IsCaused (S.misses shelf.old) (S.misses shelf.new) (S.faults shelf.old)
         (S.faults shelf.new) 0 0 result }
     ensures spelled { IfErr result IsNotUsage }
+    ensures named { IfErr result (NamesInput input.now) }
 {
-    match open(alloc, input, shelf) {
-        Err(ending) => Err(ending),
-        Ok(file) => match output_of(alloc, &file) {
-            Ok(output) => Ok(output),
-            Err(_) => Err(Ending::NoMemory),
-        },
+    let mut file = match open_input::<S, P>(alloc, input, shelf) {
+        Ok(file) => file,
+        Err(ending) => return Err(ending),
+    };
+    let totals = match render_own(alloc, &mut file, shelf, name) {
+        Ok(totals) => totals,
+        Err(fault) => return Err(reading_ending(alloc, fault, input)),
+    };
+    match summary_line(alloc, totals.blocks, totals.bytes) {
+        Ok(line) => Ok(line),
+        Err(_) => {
+            shelf.abandon();
+            Err(Ending::NoMemory)
+        }
     }
 }
 
@@ -80,7 +72,7 @@ pub fn convert<S: Shelf, O: Sink>(
     ensures checked { IfErr result (λ ending. IfSome (S.told shelf.old) (λ t.
         IsChecked (result_err (convert_outcome t.held input.now name.now)) ending)) }
 
-    // What is committed reads back.
+    // What is committed is accepted, with exactly the input's rebuilt graph.
     ensures commits { OnOk result (IfSome (S.told shelf.old) (λ t.
         IsCommitted t.held (held_of (S.told shelf.new)) input.now name.now)) }
 
@@ -94,9 +86,10 @@ pub fn convert<S: Shelf, O: Sink>(
     ensures cause { IsCaused (S.misses shelf.old) (S.misses shelf.new) (S.faults shelf.old)
         (S.faults shelf.new) (O.faults out.old) (O.faults out.new) result }
     ensures spelled { IfErr result IsNotUsage }
+    ensures named { IfErr result (NamesInput input.now) }
 {
-    match prepare(alloc, input, shelf) {
+    match stage_conversion::<S, WholePayload>(alloc, input, name, shelf) {
         Err(ending) => Err(ending),
-        Ok(output) => store(name, &output.bytes, &output.line, shelf, out),
+        Ok(line) => commit(&line, shelf, out),
     }
 }

@@ -8,7 +8,6 @@ mod faults;
 mod files;
 mod opened;
 mod printing;
-mod raw_output;
 mod schema;
 
 use bl_commands::Ending;

@@ -8,12 +8,13 @@ ghost use Rattle.bl_shelf.specs.Written.{Grows, GrowsByPrefix};
 ghost use Rattle.bl_cli.specs.Outcome.{schema_outcome};
 ghost use Rattle.bl_cli.specs.Accomplished.{IsPrinted};
 ghost use Rattle.bl_cli.specs.Printing.{Adds};
-ghost use Rattle.bl_cli.specs.Run.{IsCaused, IsChecked, IsDone, IsLeft, IsNotUsage, ComesFromOutside, own_text};
+ghost use Rattle.bl_cli.specs.Run.{IsCaused, IsChecked, IsDone, IsLeft, IsNotUsage, NamesInput, ComesFromOutside, own_text};
 
 use crate::catalogue_names::{member_name, member_type_name, struct_name};
-use crate::opened::open;
+use crate::opened::open_input;
 use crate::printing::{add_line, put};
 use bl_commands::Ending;
+use bl_file::WholePayload;
 use bl_format::Catalogue;
 use bl_header::Header;
 use bl_layout::Layout;
@@ -202,9 +203,10 @@ pub fn schema<S: Shelf, O: Sink>(
     ensures cause { IsCaused (S.misses shelf.old) (S.misses shelf.new) (S.faults shelf.old)
         (S.faults shelf.new) (O.faults out.old) (O.faults out.new) result }
     ensures spelled { IfErr result IsNotUsage }
+    ensures named { IfErr result (NamesInput input.now) }
 {
-    match open(alloc, input, shelf) {
+    match open_input::<S, WholePayload>(alloc, input, shelf) {
         Err(ending) => Err(ending),
-        Ok(file) => print_schema(alloc, &file.header, &file.layout, out),
+        Ok(file) => print_schema(alloc, &file.outline.header, &file.outline.layout, out),
     }
 }
