@@ -51,10 +51,14 @@ def member(spelled):
     return TYPES.index(kind), NAMES.index(field)
 
 
-def payload(width=8, order="<"):
+def parts(width=8):
+    """The names, types, lengths and structs, as `written` takes them."""
     structs = [(TYPES.index(name), [member(spelled) for spelled in members]) for name, *members in STRUCTS]
-    return written([name.encode() for name in NAMES], [name.encode() for name in TYPES], LENGTHS[width],
-                   structs, order)
+    return [name.encode() for name in NAMES], [name.encode() for name in TYPES], list(LENGTHS[width]), structs
+
+
+def payload(width=8, order="<"):
+    return written(*parts(width), order)
 
 
 def head(code, length, address=0, index=0, count=1, width=8, order="<"):
