@@ -1,4 +1,4 @@
--- Which numbers a scope's order has, and how they are sorted.
+-- Which rows a scope has, and how they are sorted.
 use Rattle.std.proofs.Common.{◌<◌, ◌≤◌, inl, inr, ℕ, ◌∙◌, List, length, get_or, arith}
 use Rattle.std.specs.Prelude.{All, Contains}
 use Rattle.std.specs.Ordering.{is_lt}
@@ -6,31 +6,25 @@ use Rattle.std.specs.List.Sorted.{IsPartitionedBy}
 use Rattle.std.proofs.lemmas.List.Sorted.{sorted_far, ranks_by}
 use Rattle.bl_addresses.specs.declared.marks.Mark.{Mark}
 use Rattle.bl_addresses.specs.declared.marks.Place.{Place}
+use Rattle.bl_addresses.specs.declared.marks.Row.{Row}
 use Rattle.bl_addresses.specs.declared.marks.Scope.{Scope}
-use Rattle.bl_addresses.specs.Marks.{mark_at, place_in, is_up_to}
-use Rattle.bl_addresses.specs.Order.{IsMember, IsOrder, key, key_cmp}
+use Rattle.bl_addresses.specs.Marks.{mark_at, is_up_to, place_of, row_of}
+use Rattle.bl_addresses.specs.Order.{IsMember, IsRow, AreSorted, key, key_cmp}
 use Rattle.bl_addresses.proofs.PlaceLemmas.{key_total, IsNoLater, no_later, IsUpTo, up_to_means, up_to_from}
 
--- the numbers are those of the nodes below k that are looked up in the scope
-pub record HasMembersBelow (scope : Scope) (marks : List Mark) (k : ℕ) (nodes : List ℕ) : Type 0 where
-  pub inside : All (IsMember scope marks) nodes
-  pub whole : (n : ℕ) → n < k → IsMember scope marks n → Contains nodes n
+-- the rows are those of the nodes below k that are looked up in the scope
+pub record HasMembersBelow (scope : Scope) (marks : List Mark) (k : ℕ) (rows : List Row) : Type 0 where
+  pub inside : All (IsRow scope marks) rows
+  pub whole : (n : ℕ) → n < k → IsMember scope marks n → Contains rows (row_of scope (mark_at marks n) n)
 
--- the place of a node
-abbrev pub place_at : Scope → List Mark → ℕ → Place
-place_at scope marks n = place_in scope (mark_at marks n)
-
--- of two nodes in order the first is no later
-pub in_order : (scope : Scope) (marks : List Mark) (order : List ℕ) → IsOrder scope marks order
-    → (i j d : ℕ) → i ≤ j → j < length order
-    → IsNoLater (place_at scope marks (get_or order i d)) (get_or order i d)
-    (place_at scope marks (get_or order j d)) (get_or order j d)
-in_order scope marks order o i j d le lt =
-    let m = get_or order i d in
-    let n = get_or order j d in
-    no_later (place_at scope marks m) (place_at scope marks n) m n
-    (sorted_far (λ x y. is_lt (key_cmp (key scope marks x) (key scope marks y))) (ranks_by key_total (key scope marks))
-    order o.sorted i j d le lt)
+-- of two rows in order the first is no later
+pub in_order : (rows : List Row) → AreSorted rows → (i j : ℕ) (d : Row) → i ≤ j → j < length rows
+    → IsNoLater (place_of (get_or rows i d)) (get_or rows i d).node (place_of (get_or rows j d)) (get_or rows j d).node
+in_order rows sorted i j d le lt =
+    let p = get_or rows i d in
+    let q = get_or rows j d in
+    no_later (place_of p) (place_of q) p.node q.node
+    (sorted_far (λ x y. is_lt (key_cmp (key x) (key y))) (ranks_by key_total key) rows sorted i j d le lt)
 
 -- what is no later than a place up to a bound is up to it
 earlier : (bound p q : Place) (m n : ℕ) → IsNoLater p m q n → IsUpTo bound q → IsUpTo bound p
@@ -48,13 +42,13 @@ earlier bound p q m n no_later up = elim no_later [
   ])
 ]
 
--- the nodes up to a place come first
-pub order_splits : (scope : Scope) (marks : List Mark) (order : List ℕ) (place : Place) → IsOrder scope marks order
-    → IsPartitionedBy (λ n. is_up_to place (place_in scope (mark_at marks n))) order
-order_splits scope marks order place o i j d le lt up =
-    let m = get_or order i d in
-    let n = get_or order j d in
-    let p = place_at scope marks m in
-    let q = place_at scope marks n in
-    let no_later = in_order scope marks order o i j d le lt in
-    up_to_from place p (earlier place p q m n no_later (up_to_means place q up))
+-- the rows up to a place come first
+pub order_splits : (rows : List Row) (place : Place) → AreSorted rows
+    → IsPartitionedBy (λ r. is_up_to place (place_of r)) rows
+order_splits rows place sorted i j d le lt up =
+    let m = get_or rows i d in
+    let n = get_or rows j d in
+    let p = place_of m in
+    let q = place_of n in
+    let no_later = in_order rows sorted i j d le lt in
+    up_to_from place p (earlier place p q m.node n.node no_later (up_to_means place q up))

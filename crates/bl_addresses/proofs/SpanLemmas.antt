@@ -1,18 +1,15 @@
--- Where an order is split by a search of a part of it.
-use Rattle.std.proofs.Common.{◌≡◌, ◌<◌, ◌≤◌, inl, inr, ℕ, ◌+◌, ◌-◌, ◌∙◌, ap, sym, subst, Bool, true, false, List, length, get_or, arith}
-use Rattle.std.specs.Prelude.{nat_lt}
+-- Where sorted rows are split by a search of a part of them.
+use Rattle.std.proofs.Common.{◌≡◌, ◌<◌, ◌≤◌, inl, inr, ℕ, ◌+◌, ◌-◌, ◌∙◌, ap, refl, sym, subst, Bool, true, false, List, length, get_or, arith}
 use Rattle.std.specs.List.{AllWithin, between}
 use Rattle.std.specs.List.Sorted.{IsPartitionPoint, IsPartitionedBy}
 use Rattle.std.proofs.lemmas.Bool.{cases_lt}
 use Rattle.std.proofs.lemmas.List.{get_or_default}
 use Rattle.std.proofs.lemmas.List.Edits.{length-between, get_or-between}
-use Rattle.bl_addresses.specs.declared.marks.Mark.{Mark}
 use Rattle.bl_addresses.specs.declared.marks.Place.{Place}
-use Rattle.bl_addresses.specs.declared.marks.Scope.{Scope}
-use Rattle.bl_addresses.specs.Marks.{mark_at, place_in, is_up_to}
-use Rattle.bl_addresses.specs.Order.{IsOrder, HasPart}
-use Rattle.bl_addresses.proofs.PlaceLemmas.{IsNoLater, up_to_from}
-use Rattle.bl_addresses.proofs.OrderLemmas.{place_at, in_order, order_splits}
+use Rattle.bl_addresses.specs.declared.marks.Row.{Row}
+use Rattle.bl_addresses.specs.Marks.{is_up_to, place_of}
+use Rattle.bl_addresses.specs.Order.{AreSorted, EndsWithin}
+use Rattle.bl_addresses.proofs.OrderLemmas.{order_splits}
 
 -- a piece of a list that is split by a test is split by it
 pub partitioned-between : {X : Type 0} (p : X → Bool) (xs : List X) (i j : ℕ) → j ≤ length xs
@@ -53,75 +50,48 @@ split-between {X} P Q xs i j e rises inside bound before behind split = (passes,
       | inr past ↦ behind k d past lt
     ]
 
--- what is of a higher part isn't up to a place
-up_to_not : (bound p : Place) → bound.part < p.part → is_up_to bound p ≡ false
-up_to_not bound p higher = grind (arith)
+-- a piece of sorted rows is split by a place
+pub piece_splits : (rows : List Row) (place : Place) (from to : ℕ) → AreSorted rows → EndsWithin rows from to place
+    → IsPartitionedBy (λ r. is_up_to place (place_of r)) (between from to rows)
+piece_splits rows place from to sorted ends =
+    partitioned-between (λ r. is_up_to place (place_of r)) rows from to ends.inside (order_splits rows place sorted)
 
--- a piece of the order is split by a place
-pub piece_splits : (scope : Scope) (marks : List Mark) (order : List ℕ) (place : Place) (from to : ℕ)
-    → IsOrder scope marks order → HasPart scope marks order from to place.part
-    → IsPartitionedBy (λ n. is_up_to place (place_in scope (mark_at marks n))) (between from to order)
-piece_splits scope marks order place from to o has =
-    partitioned-between (λ n. is_up_to place (place_in scope (mark_at marks n))) order from to has.inside
-    (order_splits scope marks order place o)
+-- where the piece in which the rows up to a place end is split by the place all rows are
+pub piece_ends : (rows : List Row) (place : Place) (from to end : ℕ)
+    → EndsWithin rows from to place → end ≤ length (between from to rows)
+    → IsPartitionPoint (λ r. is_up_to place (place_of r) ≡ true) (λ r. is_up_to place (place_of r) ≡ false)
+    (between from to rows) end
+    → IsPartitionPoint (λ r. is_up_to place (place_of r) ≡ true) (λ r. is_up_to place (place_of r) ≡ false)
+    rows (from + end)
+piece_ends rows place from to end ends bound split =
+    split-between (λ r. is_up_to place (place_of r) ≡ true) (λ r. is_up_to place (place_of r) ≡ false)
+    rows from to end ends.rises ends.inside bound ends.before ends.behind split
 
--- where the piece that has a place's part is split by the place the order is
-pub piece_ends : (scope : Scope) (marks : List Mark) (order : List ℕ) (place : Place) (from to end : ℕ)
-    → HasPart scope marks order from to place.part → end ≤ length (between from to order)
-    → IsPartitionPoint (λ n. is_up_to place (place_in scope (mark_at marks n)) ≡ true)
-    (λ n. is_up_to place (place_in scope (mark_at marks n)) ≡ false) (between from to order) end
-    → IsPartitionPoint (λ n. is_up_to place (place_in scope (mark_at marks n)) ≡ true)
-    (λ n. is_up_to place (place_in scope (mark_at marks n)) ≡ false) order (from + end)
-piece_ends scope marks order place from to end has bound split =
-    split-between (λ n. is_up_to place (place_at scope marks n) ≡ true)
-    (λ n. is_up_to place (place_at scope marks n) ≡ false) order from to end has.rises has.inside bound
-    (λ k d none lt. up_to_from place (place_at scope marks (get_or order k d)) (inl (has.lower k d none lt)))
-    (λ k d le lt. up_to_not place (place_at scope marks (get_or order k d)) (has.higher k d le lt))
-    split
+-- and it ends among them
+pub piece_bound : (rows : List Row) (from to end : ℕ) → from ≤ to → to ≤ length rows
+    → end ≤ length (between from to rows) → from + end ≤ length rows
+piece_bound rows from to end rises inside bound =
+    omega (arith, length-between rows from to inside, rises, inside, bound)
 
--- and it ends in the order
-pub piece_bound : (order : List ℕ) (from to end : ℕ) → from ≤ to → to ≤ length order
-    → end ≤ length (between from to order) → from + end ≤ length order
-piece_bound order from to end rises inside bound =
-    omega (arith, length-between order from to inside, rises, inside, bound)
+-- where the row before one is up to a place all before it are
+pub up_to_before : (rows : List Row) (from : ℕ) (place : Place) (e : Row) → AreSorted rows → from ≤ length rows
+    → is_up_to place (place_of (get_or rows (from - 1) e)) ≡ true
+    → AllWithin (λ r. is_up_to place (place_of r) ≡ true) rows 0 from
+up_to_before rows from place e sorted inside up k d none lt =
+    let last : from - 1 < length rows = omega (arith, inside, lt) in
+    order_splits rows place sorted k (from - 1) d (omega (arith, lt)) last
+    (subst (λ (r : Row). is_up_to place (place_of r) ≡ true) (get_or_default rows (from - 1) e d last) up)
 
--- of two nodes in order the first is of no higher part
-part_le : (p q : Place) (m n : ℕ) → IsNoLater p m q n → p.part ≤ q.part
-part_le p q m n no_later = elim no_later [
-  | inl less ↦ omega (arith, less)
-  | inr same ↦ (let part = same.0 in omega (arith, part))
-]
-
--- parts don't fall in an order
-parts_rise : (scope : Scope) (marks : List Mark) (order : List ℕ) → IsOrder scope marks order
-    → (i j d e : ℕ) → i ≤ j → j < length order
-    → (place_at scope marks (get_or order i d)).part ≤ (place_at scope marks (get_or order j e)).part
-parts_rise scope marks order o i j d e le lt =
-    let m = get_or order i d in
-    let n = get_or order j d in
-    subst (λ k. (place_at scope marks m).part ≤ (place_at scope marks k).part) (get_or_default order j d e lt)
-    (part_le (place_at scope marks m) (place_at scope marks n) m n (in_order scope marks order o i j d le lt))
-
--- what a comparison that passes says
-less_from : (m n : ℕ) → nat_lt m n ≡ true → m < n
-less_from m n e = grind (arith)
-
--- where the node before a place is of a lower part all before it are
-pub lower_before : (scope : Scope) (marks : List Mark) (order : List ℕ) (from part r e : ℕ)
-    → IsOrder scope marks order → from ≤ length order
-    → r ≡ (place_at scope marks (get_or order (from - 1) e)).part → nat_lt r part ≡ true
-    → AllWithin (λ n. (place_in scope (mark_at marks n)).part < part) order 0 from
-lower_before scope marks order from part r e o inside is lower k d none lt =
-    let less = less_from r part lower in
-    let rise = parts_rise scope marks order o k (from - 1) d e (omega (arith, lt)) (omega (arith, inside, lt)) in
-    omega (arith, rise, is, less)
-
--- where the node at a place is of a higher part all from it on are
-pub higher_behind : (scope : Scope) (marks : List Mark) (order : List ℕ) (to part r e : ℕ)
-    → IsOrder scope marks order
-    → r ≡ (place_at scope marks (get_or order to e)).part → nat_lt part r ≡ true
-    → AllWithin (λ n. part < (place_in scope (mark_at marks n)).part) order to (length order)
-higher_behind scope marks order to part r e o is higher k d le lt =
-    let less = less_from part r higher in
-    let rise = parts_rise scope marks order o to k e d le lt in
-    omega (arith, rise, is, less)
+-- where a row isn't up to a place none from it on is
+pub beyond_behind : (rows : List Row) (to : ℕ) (place : Place) (e : Row) → AreSorted rows
+    → is_up_to place (place_of (get_or rows to e)) ≡ false
+    → AllWithin (λ r. is_up_to place (place_of r) ≡ false) rows to (length rows)
+beyond_behind rows to place e sorted beyond k d le lt = go (is_up_to place (place_of (get_or rows k d))) refl
+  where
+    go : (b : Bool) → is_up_to place (place_of (get_or rows k d)) ≡ b
+        → is_up_to place (place_of (get_or rows k d)) ≡ false
+    go false far = far
+    go true up =
+        let first : is_up_to place (place_of (get_or rows to d)) ≡ true = order_splits rows place sorted to k d le lt up in
+        let same = get_or_default rows to d e (omega (arith, le, lt)) in
+        absurd (cc (subst (λ (r : Row). is_up_to place (place_of r) ≡ true) same first, beyond))

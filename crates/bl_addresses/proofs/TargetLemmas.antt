@@ -41,21 +41,16 @@ target_found marks group address other =
 -- a node of the group is the target
 pub target_in_group : (marks : List Mark) (seen : List nodes.Mark) (group address n : ℕ)
     → map mark_of marks ≡ seen → (address ≡ 0 → ⊥)
-    → (items : List Mark) → items ≡ marks → Some n ≡ found_in_group items group address
-    → Some n ≡ target_of seen group address
-target_in_group marks seen group address n view other items same found =
-    let here = found ∙ ap (λ (ms : List Mark). found_in_group ms group address) same in
-    ap (λ o. option_or o (found_in_file marks address)) here
+    → Some n ≡ found_in_group marks group address → Some n ≡ target_of seen group address
+target_in_group marks seen group address n view other found =
+    ap (λ o. option_or o (found_in_file marks address)) found
     ∙ sym (target_found marks group address other) ∙ ap (λ ms. target_of ms group address) view
 
 -- where the group has none, an ID is
 pub target_in_file : (marks : List Mark) (seen : List nodes.Mark) (group address : ℕ) (r : Option ℕ)
     → map mark_of marks ≡ seen → (address ≡ 0 → ⊥)
-    → (items : List Mark) → items ≡ marks → None ≡ found_in_group items group address
-    → (others : List Mark) → others ≡ marks → r ≡ found_in_file others address
+    → None ≡ found_in_group marks group address → r ≡ found_in_file marks address
     → r ≡ target_of seen group address
-target_in_file marks seen group address r view other items same none others also found =
-    let nowhere = none ∙ ap (λ (ms : List Mark). found_in_group ms group address) same in
-    found ∙ ap (λ (ms : List Mark). found_in_file ms address) also
-    ∙ ap (λ o. option_or o (found_in_file marks address)) nowhere
+target_in_file marks seen group address r view other none found =
+    found ∙ ap (λ o. option_or o (found_in_file marks address)) none
     ∙ sym (target_found marks group address other) ∙ ap (λ ms. target_of ms group address) view

@@ -3,6 +3,7 @@ use Rattle.std.specs.Prelude.{ℕ, Bool, true, false, ◌==◌, ◌&&◌, ◌||�
 use Rattle.bl_format.specs.Nodes as nodes
 use Rattle.bl_addresses.specs.declared.marks.Mark.{Mark}
 use Rattle.bl_addresses.specs.declared.marks.Place.{Place}
+use Rattle.bl_addresses.specs.declared.marks.Row.{Row}
 use Rattle.bl_addresses.specs.declared.marks.Scope.{Scope}
 use Rattle.bl_addresses.specs.declared.marks.Scope.TheVariants.{Group, File}
 
@@ -29,6 +30,15 @@ is_member File m = m.is_an_id
 abbrev pub place_in : Scope → Mark → Place
 place_in Group m = record { part = m.group; address = m.address }
 place_in File m = record { part = 0; address = m.address }
+
+-- a node where it is looked up in a scope, by its mark and its number
+abbrev pub row_of : Scope → Mark → ℕ → Row
+row_of scope m n =
+    record { address = (place_in scope m).address; part = (place_in scope m).part; node = n }
+
+-- where the node of a row is found
+abbrev pub place_of : Row → Place
+place_of r = record { part = r.part; address = r.address }
 
 -- a place is no later than a bound
 abbrev pub is_up_to : Place → Place → Bool

@@ -1,5 +1,5 @@
 ghost use Rattle.std.specs.Prelude.{◌≡◌, IfOk, length, map};
-ghost use Rattle.bl_addresses.specs.Marks.{mark_of, marks_by, mark_at, is_member, place_in};
+ghost use Rattle.bl_addresses.specs.Marks.{mark_of, marks_by, is_member, place_in, place_of, row_of};
 
 use bl_num::NoMemory;
 use std::alloc::Global;
@@ -29,12 +29,13 @@ pub struct Place {
     pub address: u64,
 }
 
-// The mark where there is no node.
-const BLANK: Mark = Mark {
-    address: 0,
-    group: 0,
-    is_an_id: false,
-};
+/// A node where it is looked up: its part, its address and its number.
+#[derive(Clone, Copy, Debug)]
+pub struct Row {
+    pub address: u64,
+    pub part: u32,
+    pub node: u32,
+}
 
 /// The marks of nodes by their groups, their addresses and whether they are IDs.
 pub fn marks_by(
@@ -60,13 +61,6 @@ pub fn marks_by(
     Ok(marks)
 }
 
-/// The mark of a node, or a blank one.
-pub fn mark_at(marks: &[Mark], node: u32) -> Mark
-    ensures { result ≡ mark_at marks.now node }
-{
-    marks.get(node as usize).copied().unwrap_or(BLANK)
-}
-
 /// Whether a node is looked up in a scope.
 pub fn is_member(scope: Scope, mark: Mark) -> bool
     ensures { result ≡ is_member scope mark }
@@ -88,5 +82,27 @@ pub fn place_in(scope: Scope, mark: Mark) -> Place
     Place {
         part,
         address: mark.address,
+    }
+}
+
+/// A node where it is looked up in a scope, by its mark and its number.
+pub fn row_of(scope: Scope, mark: Mark, node: u32) -> Row
+    ensures { result ≡ row_of scope mark node }
+{
+    let place = place_in(scope, mark);
+    Row {
+        address: place.address,
+        part: place.part,
+        node,
+    }
+}
+
+/// Where the node of a row is found.
+pub fn place_of(row: Row) -> Place
+    ensures { result ≡ place_of row }
+{
+    Place {
+        part: row.part,
+        address: row.address,
     }
 }

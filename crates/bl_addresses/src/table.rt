@@ -2,27 +2,30 @@ ghost use Rattle.std.specs.Prelude.{◌≡◌, ◌<◌, ◌^◌, IfOk, length, s
 ghost use Rattle.bl_format.specs.Nodes.{target_of};
 ghost use Rattle.bl_addresses.specs.Marks.{marks_by};
 
-use crate::marks::{Mark, Place, Scope, marks_by};
+use crate::marks::{Mark, Place, Row, Scope, marks_by};
 use crate::order::order_of;
 use crate::search::last_at;
-use crate::spans::{Span, span_of, starts_of};
+use crate::spans::{Buckets, Span, span_of, starts_of};
 use bl_num::NoMemory;
 use std::alloc::Global;
 use std::marker::Model;
 
 /// Which nodes addresses name, group by group. Addresses are searched in sorted lists: a file
-/// chooses its addresses, and in a hashed table it could choose ones that collide. A node takes 24
-/// bytes, and a group 4.
+/// chooses its addresses, and in a hashed table it could choose ones that collide. Where one stands
+/// is guessed, by its group or among the IDs by its value, and the guess is tested. A node takes 32
+/// bytes, an ID 20 more, and a group 4.
 #[derive(Debug, Drop)]
 pub struct Table {
     // What addresses are compared with in each node.
     marks: Vec<Mark>,
     // The nodes by group, by address and by number.
-    nodes: Vec<u32>,
+    nodes: Vec<Row>,
     // The IDs by address and by number.
-    ids: Vec<u32>,
+    ids: Vec<Row>,
     // Where each group is guessed to begin in the nodes. A search tests its guess.
     starts: Vec<u32>,
+    // Where addresses are guessed to stand in the IDs. A search tests this, too.
+    buckets: Buckets,
 }
 
 impl Model for Table {
@@ -56,11 +59,13 @@ impl Table {
         let nodes = order_of(alloc, Scope::Group, &marks)?;
         let ids = order_of(alloc, Scope::File, &marks)?;
         let starts = starts_of(alloc, &marks)?;
+        let buckets = Buckets::new(alloc, &ids)?;
         Ok(Table {
             marks,
             nodes,
             ids,
             starts,
+            buckets,
         })
     }
 
@@ -85,16 +90,11 @@ impl Table {
             address,
         };
         let span = self.span_of(group);
-        match last_at(Scope::Group, &self.marks, &self.nodes, span, place) {
+        match last_at(&self.nodes, span, place) {
             Some(node) => Some(node),
             None => last_at(
-                Scope::File,
-                &self.marks,
                 &self.ids,
-                Span {
-                    from: 0,
-                    to: self.ids.len(),
-                },
+                self.buckets.span_of(address, self.ids.len()),
                 Place { part: 0, address },
             ),
         }
@@ -102,6 +102,6 @@ impl Table {
 
     // Where a group is guessed to stand in the nodes.
     fn span_of(&self, group: u32) -> Span {
-        span_of(&self.starts, group, self.nodes.len())
+        span_of(&self.starts, group as usize, self.nodes.len())
     }
 }

@@ -2,4 +2,4 @@ use Rattle.bl_addresses.proofs.OrderLemmas.{HasMembersBelow}
 use Rattle.bl_addresses.proofs.order.members.Given as goal
 
 abbrev pub invariant-loop-n : goal.invariant-loop-n
-invariant-loop-n l = HasMembersBelow l.scope l.marks l.n l.nodes.items
+invariant-loop-n l = HasMembersBelow l.scope l.marks l.n l.rows.items
