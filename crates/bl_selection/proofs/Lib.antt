@@ -19,6 +19,9 @@ pub mod CellViews
 pub mod RawKinds
 pub mod SelectionFits
 pub mod RebuiltStands
+pub mod GroupRuns
+pub mod WellFormed
+pub mod DraftFacts
 pub mod SameWidth
 pub mod OwnFormStructs
 pub mod OwnFormWays
@@ -27,3 +30,4 @@ pub mod OwnFormNames
 pub mod OwnFormGraph
 pub mod OwnFormLengths
 pub mod OwnForm
+pub mod Again

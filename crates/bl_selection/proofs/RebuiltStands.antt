@@ -167,7 +167,7 @@ kept_before kept (suc n) k lt is =
           subst (λ (m : ℕ). count_by kept (numbers_below m) < count_by kept (numbers_below (suc n))) (sym last) (omega (arith, step, one)))
     ]
 
-at_most : (kept : ℕ → Bool) (n : ℕ) → All (λ v. v ≤ count_by kept (numbers_below n)) (own_images kept n)
+pub at_most : (kept : ℕ → Bool) (n : ℕ) → All (λ v. v ≤ count_by kept (numbers_below n)) (own_images kept n)
 at_most kept n =
     All-map (λ v. v ≤ count_by kept (numbers_below n)) (λ (k : ℕ). cond (kept k) (suc (count_by kept (numbers_below k))) 0) (numbers_below n)
     (All-weaker (λ k. k < n) (λ k. cond (kept k) (suc (count_by kept (numbers_below k))) 0 ≤ count_by kept (numbers_below n)) (λ k lt. one k lt (kept k) refl) (numbers_below n) (numbers_below-lt n))
@@ -185,7 +185,7 @@ module _ (f : File) (h : Header) (c : Catalogue) where
   abbrev d : Draft
   d = whole_selection f h c
 
-  entry_number : length d.entries ≡ count_by (is_kept c f) (numbers_below (length f.nodes))
+  pub entry_number : length d.entries ≡ count_by (is_kept c f) (numbers_below (length f.nodes))
   entry_number = length-map (kept_nodes c f) _ ∙ length-filter (is_kept c f) (numbers_below (length f.nodes))
 
   -- all entries are sources
@@ -205,7 +205,7 @@ module _ (f : File) (h : Header) (c : Catalogue) where
       each zero = get_or-all (λ v. v ≤ length d.entries) (own_images (is_kept c f) (length f.nodes)) n 0 (omega arith) (subst (λ (m : ℕ). All (λ v. v ≤ m) (own_images (is_kept c f) (length f.nodes))) (sym entry_number) (at_most (is_kept c f) (length f.nodes)))
       each (suc i) = omega arith
 
-  few_entries : length d.entries ≤ length f.nodes
+  pub few_entries : length d.entries ≤ length f.nodes
   few_entries =
       let all : count_by (is_kept c f) (numbers_below (length f.nodes)) ≤ length (numbers_below (length f.nodes)) = count_by-le-length (is_kept c f) (numbers_below (length f.nodes)) in
       omega (arith, entry_number, all, length-numbers_below (length f.nodes))
@@ -216,10 +216,10 @@ module _ (f : File) (h : Header) (c : Catalogue) where
   -- ---- entries
 
   -- a node of the file that is kept
-  abbrev IsKept : ℕ → Type 0
+  abbrev pub IsKept : ℕ → Type 0
   IsKept n = (n < length f.nodes) × (is_kept c f n ≡ true)
 
-  all_kept : All IsKept (kept_nodes c f)
+  pub all_kept : All IsKept (kept_nodes c f)
   all_kept i n lt = (
     All-filter (is_kept c f) (λ k. k < length f.nodes) (numbers_below (length f.nodes)) (numbers_below-lt (length f.nodes)) i n lt,
     filter_passes (is_kept c f) (numbers_below (length f.nodes)) i n lt,
