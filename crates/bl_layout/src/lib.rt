@@ -27,6 +27,7 @@ mod tables;
 mod types;
 
 pub use bl_format::{Kind, LayoutFault, Leaf, PathStep, Shape};
+pub use copy::copy_of;
 pub use layout::Layout;
 
 #[cfg(test)]
