@@ -1,25 +1,46 @@
--- The kinds that are read of a file are those of its nodes.
-use Rattle.std.proofs.Common.{◌≡◌, ◌≤◌, ℕ, List, [], ◌∷◌, ◌++◌, length, refl, ap, ◌∙◌, arith}
+-- The kinds that are gathered of nodes are those by what addresses name, and those of a file by its own table.
+use Rattle.std.proofs.Common.{◌≡◌, ◌≤◌, ℕ, List, [], ◌∷◌, ◌++◌, length, map, refl, ap, ◌∙◌, arith}
+use Rattle.std.specs.List.{enumerate_from}
+use Rattle.bl_format.specs.declared.file.Header.{Header}
+use Rattle.bl_format.specs.declared.file.Head.{Head}
+use Rattle.bl_format.specs.declared.catalogue.Catalogue.{Catalogue}
 use Rattle.bl_format.specs.declared.raw.RawKind.{RawKind}
 use Rattle.bl_format.specs.declared.raw.View.{View}
+use Rattle.bl_format.specs.Nodes.{Mark}
 use Rattle.bl_format.specs.Graph.{file_views}
 use Rattle.bl_file.specs.declared.views.Sight.{Sight}
 use Rattle.bl_file.specs.Opening.{kinds_in}
-use Rattle.bl_file.specs.Outlines.{file_with}
+use Rattle.bl_file.specs.Outlines.{file_with, marks_of}
+use Rattle.bl_file.specs.Seen.{Namings, table_names, kind_seen, kinds_seen, views_seen}
 use Rattle.bl_file.specs.Views.{raw_only, nodes_said, kinds_by, IsSight}
-use Rattle.bl_file.proofs.NodeViewLaws.{file_law}
-use Rattle.bl_file.proofs.KindLemmas.{kinds_by-kinds_in}
+use Rattle.bl_file.proofs.NodeViewLaws.{seen_law}
+use Rattle.bl_file.proofs.KindLemmas.{kinds_by-kinds_seen}
+use Rattle.bl_file.proofs.PairLemmas.{seen_viewed}
+use Rattle.bl_file.proofs.TableLemmas.{views_by_table}
 
--- what all nodes say gives the kinds of the file
-pub kinds_of_file : (s : Sight) (n : ℕ) (b : List ℕ) (old seen : List View) (kinds : List RawKind)
-    → IsSight s n → length b ≡ n → old ≡ [] → seen ≡ old ++ nodes_said s b (length s.nodes.now)
-    → kinds ≡ kinds_by s.nodes.now seen → kinds ≡ kinds_in (file_with s.header.now s.layout.now.catalogue s.nodes.now b)
-kinds_of_file s n b old seen kinds sight long empty said are =
+-- what all nodes say gives the kinds by what addresses name
+pub kinds_of_said : (names : Namings) (s : Sight) (n : ℕ) (b : List ℕ) (old seen : List View) (kinds : List RawKind)
+    → IsSight s n → length b ≡ n → old ≡ [] → seen ≡ old ++ nodes_said names s b (length s.nodes.now)
+    → kinds ≡ kinds_by s.nodes.now seen → kinds ≡ kinds_seen s.nodes.now (views_seen names s.header.now s.layout.now.catalogue s.nodes.now b)
+kinds_of_said names s n b old seen kinds sight long empty said are =
     let h = s.header.now in
     let c = s.layout.now.catalogue in
     let nodes = s.nodes.now in
-    let all : seen ≡ raw_only nodes (file_views (file_with h c nodes b)) =
-    said ∙ ap (λ vs. vs ++ nodes_said s b (length nodes)) empty
-    ∙ file_law h c s.layout.now.width nodes s.table.now s.basics.now s.speaking.now b n (length nodes) sight.width sight.has_layout
-    sight.nodes sight.table sight.basics sight.speaking long (omega arith) in
-    are ∙ ap (kinds_by nodes) all ∙ kinds_by-kinds_in (file_with h c nodes b) nodes refl
+    let all : seen ≡ raw_only nodes (views_seen names h c nodes b) =
+    said ∙ ap (λ vs. vs ++ nodes_said names s b (length nodes)) empty
+    ∙ seen_law names h c s.layout.now.width nodes s.speakers.now b n (length nodes) sight.width sight.has_layout
+    sight.nodes sight.speakers long (omega arith) in
+    are ∙ ap (kinds_by nodes) all ∙ kinds_by-kinds_seen nodes (views_seen names h c nodes b) (seen_viewed names h c nodes b)
+
+-- the kinds of a file are those by all its views
+file_kinds : (h : Header) (c : Catalogue) (nodes : List Head) (b : List ℕ) (views : List View)
+    → views ≡ file_views (file_with h c nodes b) → kinds_seen nodes views ≡ kinds_in (file_with h c nodes b)
+unfolding kinds_in kinds_seen
+file_kinds h c nodes b views are = ap (λ vs. map (λ (p : ℕ × Head). kind_seen vs p.0 p.1) (enumerate_from 0 nodes)) are
+
+-- so are those by the table of its nodes
+pub kinds_by_table : (h : Header) (c : Catalogue) (nodes : List Head) (table : List Mark) (b : List ℕ) (kinds : List RawKind)
+    → table ≡ marks_of h c nodes → kinds ≡ kinds_seen nodes (views_seen (table_names table) h c nodes b)
+    → kinds ≡ kinds_in (file_with h c nodes b)
+kinds_by_table h c nodes table b kinds is are =
+    are ∙ file_kinds h c nodes b (views_seen (table_names table) h c nodes b) (views_by_table h c nodes table b is)

@@ -9,14 +9,13 @@ use Rattle.bl_format.specs.declared.raw.RawKind.{RawKind}
 use Rattle.bl_format.specs.declared.raw.RawKind.TheVariants.{Bytes, Pair}
 use Rattle.bl_format.specs.declared.raw.View.{View}
 use Rattle.bl_format.specs.Words.{numbers_below}
-use Rattle.bl_format.specs.Nodes.{File, is_pair_code, viewed_kind, raw_kind, common_kind}
-use Rattle.bl_format.specs.Graph.{file_views}
+use Rattle.bl_format.specs.Nodes.{is_pair_code, viewed_kind, raw_kind, common_kind}
 use Rattle.bl_selection.proofs.EntriesAsNodes.{length-numbers_below}
-use Rattle.bl_file.specs.Opening.{kind_of, kinds_in}
-use Rattle.bl_file.specs.Views.{is_raw, raw_only, viewed_or_bytes, kind_by, kinds_by, raw_views}
+use Rattle.bl_file.specs.Seen.{kind_seen, kinds_seen}
+use Rattle.bl_file.specs.Views.{is_raw, raw_only, viewed_or_bytes, kind_by, kinds_by}
 use Rattle.bl_file.proofs.IdLemmas.{get_or-by}
 use Rattle.bl_file.proofs.GroupLemmas.{enumerate-push}
-use Rattle.bl_file.proofs.PairLemmas.{viewed_no_pair}
+use Rattle.bl_file.proofs.PairLemmas.{AreViewed, viewed_no_pair}
 
 -- ---- one node after another
 
@@ -79,38 +78,37 @@ raw_here : (i : ℕ) (front : List Head) (x : Head) (xs : List Head) → i ≡ l
 raw_here i [] x xs is raw = rw is raw
 raw_here i (y ∷ ys) x xs is raw = rw is (raw_here (length ys) ys x xs refl raw)
 
-same_kind : (f : File) (nodes : List Head) (i : ℕ) (x : Head) → ((x.index == 0) ≡ true → is_raw nodes i ≡ true)
-    → kind_by x (viewed_kind (raw_only nodes (file_views f)) i) ≡ kind_of f i x
+same_kind : (nodes : List Head) (views : List View) (i : ℕ) (x : Head) → AreViewed views → ((x.index == 0) ≡ true → is_raw nodes i ≡ true)
+    → kind_by x (viewed_kind (raw_only nodes views) i) ≡ kind_seen views i x
 unfolding raw_kind
-same_kind f nodes i x so = by (x.index == 0) refl
+same_kind nodes views i x all so = by (x.index == 0) refl
   where
     by : (b : Bool) → (x.index == 0) ≡ b
-        → cond b (cond (is_pair_code x.code) (cond (nat_le 8 x.len) Pair Bytes) (viewed_or_bytes (viewed_kind (raw_only nodes (file_views f)) i))) Bytes
-        ≡ cond b (cond (is_pair_code x.code) (cond (nat_le 8 x.len) Pair Bytes) (viewed_kind (file_views f) i)) Bytes
+        → cond b (cond (is_pair_code x.code) (cond (nat_le 8 x.len) Pair Bytes) (viewed_or_bytes (viewed_kind (raw_only nodes views) i))) Bytes
+        ≡ cond b (cond (is_pair_code x.code) (cond (nat_le 8 x.len) Pair Bytes) (viewed_kind views i)) Bytes
     by true is =
         ap (λ (vs : List View). cond (is_pair_code x.code) (cond (nat_le 8 x.len) Pair Bytes) (viewed_or_bytes (common_kind (map (λ (v : View). v.kind) vs))))
-        (views_of_raw nodes i (file_views f) (so is))
-        ∙ ap (cond (is_pair_code x.code) (cond (nat_le 8 x.len) Pair Bytes)) (viewed_no_pair f i)
+        (views_of_raw nodes i views (so is))
+        ∙ ap (cond (is_pair_code x.code) (cond (nat_le 8 x.len) Pair Bytes)) (viewed_no_pair views i all)
     by false is = refl
 
-same_kinds : (f : File) (i : ℕ) (front xs : List Head) → i ≡ length front
-    → map (λ (p : ℕ × Head). kind_by p.1 (viewed_kind (raw_only (front ++ xs) (file_views f)) p.0)) (enumerate_from i xs)
-    ≡ map (λ (p : ℕ × Head). kind_of f p.0 p.1) (enumerate_from i xs)
-same_kinds f i front [] is = refl
-same_kinds f i front (x ∷ xs) is =
+same_kinds : (views : List View) (i : ℕ) (front xs : List Head) → AreViewed views → i ≡ length front
+    → map (λ (p : ℕ × Head). kind_by p.1 (viewed_kind (raw_only (front ++ xs) views) p.0)) (enumerate_from i xs)
+    ≡ map (λ (p : ℕ × Head). kind_seen views p.0 p.1) (enumerate_from i xs)
+same_kinds views i front [] all is = refl
+same_kinds views i front (x ∷ xs) all is =
     let more : (front ++ x ∷ []) ++ xs ≡ front ++ x ∷ xs = append_assoc front (x ∷ []) xs in
     let long : i + 1 ≡ length (front ++ x ∷ []) = omega (arith, is, length-append front (x ∷ [])) in
-    let later = same_kinds f (i + 1) (front ++ x ∷ []) xs long in
-    let there : map (λ (p : ℕ × Head). kind_by p.1 (viewed_kind (raw_only (front ++ x ∷ xs) (file_views f)) p.0)) (enumerate_from (i + 1) xs)
-    ≡ map (λ (p : ℕ × Head). kind_of f p.0 p.1) (enumerate_from (i + 1) xs) =
-    subst (λ ys. map (λ (p : ℕ × Head). kind_by p.1 (viewed_kind (raw_only ys (file_views f)) p.0)) (enumerate_from (i + 1) xs)
-    ≡ map (λ (p : ℕ × Head). kind_of f p.0 p.1) (enumerate_from (i + 1) xs)) more later in
-    ap (λ k. k ∷ map (λ (p : ℕ × Head). kind_by p.1 (viewed_kind (raw_only (front ++ x ∷ xs) (file_views f)) p.0)) (enumerate_from (i + 1) xs))
-    (same_kind f (front ++ x ∷ xs) i x (raw_here i front x xs is))
-    ∙ ap (λ ks. kind_of f i x ∷ ks) there
+    let later = same_kinds views (i + 1) (front ++ x ∷ []) xs all long in
+    let there : map (λ (p : ℕ × Head). kind_by p.1 (viewed_kind (raw_only (front ++ x ∷ xs) views) p.0)) (enumerate_from (i + 1) xs)
+    ≡ map (λ (p : ℕ × Head). kind_seen views p.0 p.1) (enumerate_from (i + 1) xs) =
+    subst (λ ys. map (λ (p : ℕ × Head). kind_by p.1 (viewed_kind (raw_only ys views) p.0)) (enumerate_from (i + 1) xs)
+    ≡ map (λ (p : ℕ × Head). kind_seen views p.0 p.1) (enumerate_from (i + 1) xs)) more later in
+    ap (λ k. k ∷ map (λ (p : ℕ × Head). kind_by p.1 (viewed_kind (raw_only (front ++ x ∷ xs) views) p.0)) (enumerate_from (i + 1) xs))
+    (same_kind (front ++ x ∷ xs) views i x all (raw_here i front x xs is))
+    ∙ ap (λ ks. kind_seen views i x ∷ ks) there
 
--- the kinds by the views of raw nodes are the kinds of the file
-pub kinds_by-kinds_in : (f : File) (nodes : List Head) → f.nodes ≡ nodes → kinds_by nodes (raw_only nodes (file_views f)) ≡ kinds_in f
-unfolding kinds_in
-kinds_by-kinds_in f nodes is =
-    same_kinds f 0 [] nodes refl ∙ ap (λ (ys : List Head). map (λ (p : ℕ × Head). kind_of f p.0 p.1) (enumerate_from 0 ys)) (sym is)
+-- the kinds by the views of raw nodes are the kinds by all
+pub kinds_by-kinds_seen : (nodes : List Head) (views : List View) → AreViewed views → kinds_by nodes (raw_only nodes views) ≡ kinds_seen nodes views
+unfolding kinds_seen
+kinds_by-kinds_seen nodes views all = same_kinds views 0 [] nodes all refl

@@ -13,7 +13,9 @@ pub mod ReadLemmas
 pub mod Readings
 pub mod RefusalLaws
 pub mod SightLemmas
+pub mod SpeakerLemmas
 pub mod Steps
+pub mod TableLemmas
 pub mod ViewLaws
 pub mod ViewLemmas
 pub mod Windows

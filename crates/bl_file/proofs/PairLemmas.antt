@@ -4,6 +4,7 @@ use Rattle.std.specs.Prelude.{All, ◌==◌, nat_le, map, filter, flat_map}
 use Rattle.std.specs.List.{enumerate_from}
 use Rattle.std.proofs.lemmas.Bool.{leb-true}
 use Rattle.std.proofs.lemmas.List.Elements.{All-nil, All-cons, All-append, All-head, All-filter}
+use Rattle.bl_format.specs.declared.file.Header.{Header}
 use Rattle.bl_format.specs.declared.file.Head.{Head}
 use Rattle.bl_format.specs.declared.catalogue.Catalogue.{Catalogue}
 use Rattle.bl_format.specs.declared.layout.Kind.{Kind}
@@ -11,10 +12,11 @@ use Rattle.bl_format.specs.declared.layout.Kind.TheVariants as kinds
 use Rattle.bl_format.specs.declared.raw.RawKind.{RawKind}
 use Rattle.bl_format.specs.declared.raw.RawKind.TheVariants.{Bytes, Numbers, Pointers, Pair}
 use Rattle.bl_format.specs.declared.raw.View.{View}
-use Rattle.bl_format.specs.Nodes.{File, is_pair_code, pair_length, view_of, view_of_basic, view_of_type, pointed_length, viewed_kind, common_kind}
-use Rattle.bl_format.specs.Graph.{Value, Points, Target, Cell, view_by, views_of, node_cells, node_views, file_views}
+use Rattle.bl_format.specs.Nodes.{is_pair_code, pair_length, view_of, view_of_basic, view_of_type, pointed_length, viewed_kind, common_kind}
+use Rattle.bl_format.specs.Graph.{Value, Points, Target, Naming, Cell, view_by, views_of}
 use Rattle.bl_format.specs.Layout.{basic_named, type_entry}
 use Rattle.bl_file.specs.Outlines.{ArePairsLong}
+use Rattle.bl_file.specs.Seen.{Namings, named_cells, named_views, views_seen}
 use Rattle.bl_file.specs.Views.{viewed_or_bytes, kind_by, kinds_by}
 
 -- ---- no view gives a pair
@@ -67,17 +69,19 @@ flat_map_viewed f [] all = All-nil (λ (v : View). IsViewed v.kind)
 flat_map_viewed f (x ∷ xs) all =
     All-append (λ (v : View). IsViewed v.kind) (f x) (flat_map f xs) (all x) (flat_map_viewed f xs all)
 
-node_viewed : (f : File) (k : ℕ) (x : Head) (raw : Bool)
-    → AreViewed (cond raw [] (flat_map (views_of f.catalogue) (node_cells f k x)))
-node_viewed f k x true = All-nil (λ (v : View). IsViewed v.kind)
-node_viewed f k x false =
-    flat_map_viewed (views_of f.catalogue) (node_cells f k x)
-    (λ cs. flat_map_viewed (λ (y : Cell). view_by f.catalogue y.leaf.kind y.value) cs (λ y. value_viewed f.catalogue y.leaf.kind y.value))
+named_viewed : (names : Naming Target) (h : Header) (c : Catalogue) (b : List ℕ) (x : Head) (raw : Bool)
+    → AreViewed (cond raw [] (flat_map (views_of c) (named_cells names h c b x)))
+named_viewed names h c b x true = All-nil (λ (v : View). IsViewed v.kind)
+named_viewed names h c b x false =
+    flat_map_viewed (views_of c) (named_cells names h c b x)
+    (λ cs. flat_map_viewed (λ (y : Cell). view_by c y.leaf.kind y.value) cs (λ y. value_viewed c y.leaf.kind y.value))
 
-file_viewed : (f : File) → AreViewed (file_views f)
-unfolding file_views
-file_viewed f =
-    flat_map_viewed (λ (p : ℕ × Head). node_views f p.0 p.1) (enumerate_from 0 f.nodes) (λ p. node_viewed f p.0 p.1 (p.1.index == 0))
+-- what pointers say is no pair
+pub seen_viewed : (names : Namings) (h : Header) (c : Catalogue) (nodes : List Head) (b : List ℕ) → AreViewed (views_seen names h c nodes b)
+unfolding views_seen
+seen_viewed names h c nodes b =
+    flat_map_viewed (λ (p : ℕ × Head). named_views (names p.0) h c b p.1) (enumerate_from 0 nodes)
+    (λ p. named_viewed (names p.0) h c b p.1 (p.1.index == 0))
 
 one_viewed : (all : Bool) (kind : RawKind) → IsViewed kind → IsViewed (cond all kind Bytes)
 one_viewed true kind viewed = viewed
@@ -87,11 +91,11 @@ common_viewed : (views : List View) → AreViewed views → IsViewed (common_kin
 common_viewed [] all = refl
 common_viewed (v ∷ vs) all = one_viewed _ v.kind (All-head (λ (w : View). IsViewed w.kind) v vs all)
 
--- the kind that the views of a file give a node is no pair
-pub viewed_no_pair : (f : File) (n : ℕ) → IsViewed (viewed_kind (file_views f) n)
-viewed_no_pair f n =
-    common_viewed (filter (λ (v : View). v.node == n) (file_views f))
-    (All-filter (λ (v : View). v.node == n) (λ (v : View). IsViewed v.kind) (file_views f) (file_viewed f))
+-- the kind that such views give a node is no pair
+pub viewed_no_pair : (views : List View) (n : ℕ) → AreViewed views → IsViewed (viewed_kind views n)
+viewed_no_pair views n all =
+    common_viewed (filter (λ (v : View). v.node == n) views)
+    (All-filter (λ (v : View). v.node == n) (λ (v : View). IsViewed v.kind) views all)
 
 -- ---- pairs are long
 

@@ -1,21 +1,19 @@
 -- What reads of a file leave, one after another, and where they stand.
-use Rattle.std.proofs.Common.{◌≡◌, ◌<◌, ◌≤◌, ℕ, zero, suc, ◌+◌, ◌*◌, ◌^◌, ◌-◌, Bool, true, false, cond, All, List, length, get_or, Option, Some, None, refl, sym, ap, subst, ◌∙◌, arith, eqb-true, min}
+use Rattle.std.proofs.Common.{◌≡◌, ◌≢◌, ◌<◌, ◌≤◌, ℕ, zero, suc, ◌+◌, ◌*◌, ◌^◌, ◌-◌, Bool, true, false, cond, All, List, length, get_or, Option, Some, None, refl, sym, ap, subst, ◌∙◌, arith, eqb-true, min}
 use Rattle.std.specs.Prelude.{◌==◌, ◌&&◌, not, nat_le, nat_lt, Result, Ok, Err, IfErr, IsSomeAnd, slice_index_or}
-use Rattle.std.proofs.lemmas.Bool.{leb-false, ltb-false}
+use Rattle.std.proofs.lemmas.Bool.{leb-false, ltb-false, false_from_ne_true}
 use Rattle.std.proofs.lemmas.List.{get_or_default}
 use Rattle.bl_num.specs.declared.number.Width.{Width}
 use Rattle.bl_format.specs.declared.file.Head.{Head}
 use Rattle.bl_format.specs.declared.catalogue.Catalogue.{Catalogue}
-use Rattle.bl_format.specs.declared.layout.Leaf.{Leaf}
 use Rattle.bl_format.specs.Layout.{HasLayout, leaves_of, struct_length}
 use Rattle.bl_format.specs.Nodes.{NodeFault, BadStruct, ShortBlock, node_fault}
 use Rattle.bl_shelf.specs.Told.{Told, bytes_under}
 use Rattle.bl_shelf.specs.Causes.{HasCause, HasRisen, Rose}
 use Rattle.bl_shelf.specs.declared.shelf.ShelfFault.{ShelfFault}
 use Rattle.bl_shelf.specs.declared.shelf.ShelfFault.TheVariants.{Absent, Failed, NoMemory}
-use Rattle.bl_members.proofs.Leaves.{leaf_at-usable}
 use Rattle.bl_file.specs.Held.{IsHeldAnd}
-use Rattle.bl_file.specs.Views.{IsReadable, StaysRead, is_speaking}
+use Rattle.bl_file.specs.Views.{StaysRead}
 
 -- ---- what is held
 
@@ -108,14 +106,6 @@ HasCause-memory (Err fault) f f' m m' fs ms memory = record {
 
 -- ---- where elements stand
 
--- the leaves of a struct can be read in the bytes of an element
-pub leaves-readable : (c : Catalogue) (w : Width) (s n : ℕ) (leaves : List Leaf)
-    → HasLayout c w → leaves ≡ leaves_of c w s → n ≡ struct_length c s → All (IsReadable n) leaves
-leaves-readable c w s n leaves has are long i d lt =
-    let x : Leaf = get_or leaves i d in
-    let usable = leaf_at-usable c w s leaves i x has are lt (get_or_default leaves i d x lt) in
-    subst (λ (m : ℕ). IsReadable m x) (sym long) (record { fits = usable.fits; number = usable.number })
-
 -- a struct node has a struct, and its elements stand in its payload
 pub record HasElements (c : Catalogue) (x : Head) : Type 0 where
   pub struct : x.index < length c.structs
@@ -136,17 +126,9 @@ faultless c x none some =
       fits = omega (arith, ltb-false x.len (x.count * struct_length c x.index) short);
     }
 
-and_first : (a b : Bool) → (a && b) ≡ true → a ≡ true
-and_first true b e = refl
-and_first false b e = e
-
-not_false : (a : Bool) → not a ≡ true → a ≡ false
-not_false true e = absurd (cc)
-not_false false e = refl
-
--- a node whose struct says anything has a struct
-pub speaking-some : (speaking : List Bool) (x : Head) → is_speaking speaking x ≡ true → (x.index == 0) ≡ false
-speaking-some speaking x e = not_false (x.index == 0) (and_first (not (x.index == 0)) (slice_index_or speaking x.index false) e)
+-- so it is where it has no fault and isn't raw
+pub has_elements : (c : Catalogue) (x : Head) → node_fault c x ≡ None → x.index ≢ 0 → HasElements c x
+has_elements c x none some = faultless c x none (false_from_ne_true (x.index == 0) (λ raw. some (eqb-true x.index 0 raw)))
 
 -- an element stands before the end of all
 pub element_before : (e n size : ℕ) → e < n → e * size + size ≤ n * size

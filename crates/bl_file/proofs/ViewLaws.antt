@@ -1,7 +1,7 @@
 -- The views that are gathered of a struct's leaves are those that the file's graph has of raw nodes.
 use Rattle.std.proofs.Common.{◌≡◌, ◌≢◌, ◌<◌, ◌≤◌, inl, inr, ℕ, zero, suc, ◌+◌, Bool, true, false, cond, List, [], ◌∷◌, ◌++◌, length, get_or, take, Option, Some, None, refl, sym, ap, ◌∙◌, arith}
-use Rattle.std.specs.Prelude.{All, map, filter, flat_map, slice_index_or}
-use Rattle.std.specs.List.{enumerate_from}
+use Rattle.std.specs.Prelude.{All, map, filter, flat_map, slice_index_or, option_map}
+use Rattle.std.specs.List.{enumerate_from, cons_option}
 use Rattle.std.proofs.lemmas.Bool.{cases_lt}
 use Rattle.std.proofs.lemmas.List.{get_or-map, get_or_past, length-map, append-nil, take_more}
 use Rattle.std.proofs.lemmas.List.Elements.{filter-append, All-head, All-tail, All-nil, All-cons, All-append}
@@ -24,7 +24,9 @@ use Rattle.bl_format.specs.Graph.{Target, Naming, Value, Points, Cell, cells, le
 use Rattle.bl_format.proofs.LeavesApart.{flat_map-numbers_below}
 use Rattle.bl_members.specs.Leaf.{number_of_leaf, value_of_number}
 use Rattle.bl_members.proofs.Leaves.{named_leaves-numbers}
-use Rattle.bl_file.specs.Views.{basic_length, basic_lengths, is_raw, raw_target, raw_only, said_by, views_of_target, element_views, leaf_views, leaves_views}
+use Rattle.bl_file.specs.declared.speakers.Speaker.{Speaker}
+use Rattle.bl_file.specs.Speakers.{basic_length, basic_lengths, said_by, speaker_with, speakers_of}
+use Rattle.bl_file.specs.Views.{is_raw, raw_target, raw_only, views_of_target, speaker_views, speakers_views}
 
 -- ---- basic types
 
@@ -112,10 +114,11 @@ flat_map-more f n =
     ∙ ap (λ xs. flat_map f (numbers_below n) ++ xs) (append-nil (f n))
 
 -- no number says anything
-abbrev none_said : ℕ → List View
+abbrev pub none_said : ℕ → List View
 none_said k = []
 
-flat_map-nothing : (n : ℕ) → flat_map none_said (numbers_below n) ≡ []
+-- nothing is said
+pub flat_map-nothing : (n : ℕ) → flat_map none_said (numbers_below n) ≡ []
 flat_map-nothing zero = refl
 flat_map-nothing (suc n) = flat_map-numbers_below none_said n ∙ ap (λ xs. xs ++ []) (flat_map-nothing n)
 
@@ -128,11 +131,22 @@ filter-flat_map p f (x ∷ xs) =
 
 -- ---- leaves
 
+-- the views of a leaf, by what it says
+abbrev leaf_views : List Head → Naming Target → Order → List ℕ → Leaf → Option RawKind → List View
+leaf_views nodes names order bytes x None = []
+leaf_views nodes names order bytes x (Some kind) = speaker_views nodes names order bytes (speaker_with x kind)
+
 views_by-said : (nodes : List Head) (names : Naming Target) (order : Order) (bytes : List ℕ) (x : Leaf) (said : Option RawKind)
     → flat_map (λ k. views_said nodes (names (number_of_leaf order x bytes k)) said) (numbers_below x.count)
     ≡ leaf_views nodes names order bytes x said
 views_by-said nodes names order bytes x None = flat_map-nothing x.count
 views_by-said nodes names order bytes x (Some kind) = refl
+
+first_heard : (nodes : List Head) (names : Naming Target) (order : Order) (bytes : List ℕ) (x : Leaf) (said : Option RawKind) (others : List Speaker)
+    → leaf_views nodes names order bytes x said ++ speakers_views nodes names order bytes others
+    ≡ speakers_views nodes names order bytes (cons_option (option_map (speaker_with x) said) others)
+first_heard nodes names order bytes x None others = refl
+first_heard nodes names order bytes x (Some kind) others = refl
 
 module _ (c : Catalogue) (nodes : List Head) (names : Naming Target) (order : Order) (bytes : List ℕ) where
   -- the elements of a leaf that isn't opaque have the values of their numbers
@@ -161,7 +175,7 @@ module _ (c : Catalogue) (nodes : List Head) (names : Naming Target) (order : Or
 
   kept_cells : (i : ℕ) (xs : List NamedLeaf) → All HasNumbers xs
       → raw_only nodes (views_of c (flat_map (λ (p : ℕ × NamedLeaf). map (λ k. record { leaf = p.1; at = k; value = leaf_value names order bytes p.1 k }) (numbers_below p.1.count)) (enumerate_from i xs)))
-      ≡ leaves_views (basic_lengths c) nodes names order bytes (map leaf_of xs)
+      ≡ speakers_views nodes names order bytes (speakers_of (basic_lengths c) (map leaf_of xs))
   kept_cells i [] all = refl
   kept_cells i (x ∷ xs) all =
       let own : List Cell = map (λ k. record { leaf = x; at = k; value = leaf_value names order bytes x k }) (numbers_below x.count) in
@@ -171,11 +185,12 @@ module _ (c : Catalogue) (nodes : List Head) (names : Naming Target) (order : Or
       ∙ ap (λ vs. raw_only nodes vs ++ raw_only nodes (views_of c others)) (cells_views x (numbers_below x.count))
       ∙ ap (λ vs. vs ++ raw_only nodes (views_of c others)) (kept_leaf x (All-head HasNumbers x xs all))
       ∙ ap (λ vs. leaf_views nodes names order bytes (leaf_of x) (said_by (basic_lengths c) x.kind) ++ vs) (kept_cells (i + 1) xs (All-tail HasNumbers x xs all))
+      ∙ first_heard nodes names order bytes (leaf_of x) (said_by (basic_lengths c) x.kind) (speakers_of (basic_lengths c) (map leaf_of xs))
 
   -- the views of a struct's leaves are those that its cells have of raw nodes
-  pub leaves_views-cells : (w : Width) (s : ℕ) → HasLayout c w → length bytes ≡ struct_length c s
-      → leaves_views (basic_lengths c) nodes names order bytes (leaves_of c w s)
+  pub speakers_views-cells : (w : Width) (s : ℕ) → HasLayout c w → length bytes ≡ struct_length c s
+      → speakers_views nodes names order bytes (speakers_of (basic_lengths c) (leaves_of c w s))
       ≡ raw_only nodes (views_of c (struct_cells names order c w s bytes))
   unfolding leaves_of cells
-  leaves_views-cells w s has len =
+  speakers_views-cells w s has len =
       sym (kept_cells 0 (named_leaves c w s) (named_leaves-numbers c w s names order bytes has len))

@@ -9,17 +9,18 @@ use Rattle.bl_num.specs.declared.number.Order.{Order}
 use Rattle.bl_format.specs.declared.file.Head.{Head}
 use Rattle.bl_format.specs.declared.file.Header.{Header}
 use Rattle.bl_format.specs.declared.catalogue.Catalogue.{Catalogue}
-use Rattle.bl_format.specs.declared.layout.Leaf.{Leaf}
 use Rattle.bl_format.specs.declared.raw.RawKind.{RawKind}
 use Rattle.bl_format.specs.declared.raw.View.{View}
 use Rattle.bl_format.specs.Words.{numbers_below, part}
 use Rattle.bl_format.specs.Blocks.{head_size}
-use Rattle.bl_format.specs.Layout.{leaves_of, struct_length}
+use Rattle.bl_format.specs.Layout.{struct_length}
 use Rattle.bl_format.specs.Graph.{Target, Naming}
-use Rattle.bl_members.specs.Leaf.{number_of_leaf}
 use Rattle.bl_selection.specs.Selection.{no_head}
+use Rattle.bl_file.specs.declared.speakers.Speaker.{Speaker}
 use Rattle.bl_file.specs.declared.views.Sight.{Sight}
-use Rattle.bl_file.specs.Views.{is_raw, raw_target, said_by, views_of_target, element_views, leaf_views, leaves_views, element_at, element_said, elements_said, head_said, node_at_said, nodes_said, AreInside}
+use Rattle.bl_file.specs.Seen.{Namings}
+use Rattle.bl_file.specs.Speakers.{speaker_number}
+use Rattle.bl_file.specs.Views.{is_raw, raw_target, views_of_target, element_views, speaker_views, speakers_views, element_at, element_said, elements_said, head_said, node_at_said, nodes_said, AreInside}
 use Rattle.bl_file.proofs.GroupLemmas.{enumerate-push}
 use Rattle.bl_file.proofs.ViewLaws.{flat_map-more}
 
@@ -28,16 +29,16 @@ pub joined : (old some more items new : List View) → items ≡ old ++ some →
 joined old some more items new before is = is ∙ ap (λ vs. vs ++ more) before ∙ append_assoc old some more
 
 -- one element more, which names this
-pub element-more : (nodes : List Head) (names : Naming Target) (order : Order) (bytes : List ℕ) (x : Leaf) (kind : RawKind)
-    (k : ℕ) (target : Target) (old items new : List View)
-    → target ≡ raw_target nodes (names (number_of_leaf order x bytes k)) → new ≡ items ++ views_of_target kind target
-    → items ≡ old ++ element_views nodes names order bytes x kind k
-    → new ≡ old ++ element_views nodes names order bytes x kind (k + 1)
-element-more nodes names order bytes x kind k target old items new named is before =
-    joined old (element_views nodes names order bytes x kind k) (views_of_target kind target) items new before is
-    ∙ ap (λ t. old ++ (element_views nodes names order bytes x kind k ++ views_of_target kind t)) named
+pub element-more : (nodes : List Head) (names : Naming Target) (order : Order) (bytes : List ℕ) (x : Speaker)
+    (k : ℕ) (target : Option ℕ) (old items new : List View)
+    → target ≡ raw_target nodes (names (speaker_number order x bytes k)) → new ≡ items ++ views_of_target x.kind target
+    → items ≡ old ++ element_views nodes names order bytes x k
+    → new ≡ old ++ element_views nodes names order bytes x (k + 1)
+element-more nodes names order bytes x k target old items new named is before =
+    joined old (element_views nodes names order bytes x k) (views_of_target x.kind target) items new before is
+    ∙ ap (λ t. old ++ (element_views nodes names order bytes x k ++ views_of_target x.kind t)) named
     ∙ ap (λ vs. old ++ vs)
-    (sym (flat_map-more (λ j. views_of_target kind (raw_target nodes (names (number_of_leaf order x bytes j)))) k))
+    (sym (flat_map-more (λ j. views_of_target x.kind (raw_target nodes (names (speaker_number order x bytes j)))) k))
 
 -- a list with one element more, of which a function gives lists
 pub flat_map-take : {X Y : Type 0} (f : X → List Y) (xs : List X) (i : ℕ) (d : X) → i < length xs
@@ -67,21 +68,14 @@ flat_map_inside nodes f [] all = All-nil (λ (v : View). v.node < length nodes)
 flat_map_inside nodes f (x ∷ xs) all =
     All-append (λ (v : View). v.node < length nodes) (f x) (flat_map f xs) (all x) (flat_map_inside nodes f xs all)
 
-leaf_inside : (nodes : List Head) (names : Naming Target) (order : Order) (bytes : List ℕ) (x : Leaf) (said : Option RawKind)
-    → AreInside nodes (leaf_views nodes names order bytes x said)
-leaf_inside nodes names order bytes x None = All-nil (λ (v : View). v.node < length nodes)
-leaf_inside nodes names order bytes x (Some kind) =
-    flat_map_inside nodes (λ k. views_of_target kind (raw_target nodes (names (number_of_leaf order x bytes k)))) (numbers_below x.count)
-    (λ k. target_inside nodes kind (names (number_of_leaf order x bytes k)))
-
 -- the views of leaves are of nodes that are there, and so are all where they are put behind such
-pub leaves_inside : (basics : List (Option ℕ)) (nodes : List Head) (names : Naming Target) (order : Order) (bytes : List ℕ)
-    (leaves : List Leaf) (old new : List View)
-    → AreInside nodes old → new ≡ old ++ leaves_views basics nodes names order bytes leaves → AreInside nodes new
-leaves_inside basics nodes names order bytes leaves old new all is =
-    subst (AreInside nodes) (sym is) (All-append (λ (v : View). v.node < length nodes) old (leaves_views basics nodes names order bytes leaves) all
-    (flat_map_inside nodes (λ (x : Leaf). leaf_views nodes names order bytes x (said_by basics x.kind)) leaves
-    (λ x. leaf_inside nodes names order bytes x (said_by basics x.kind))))
+pub speakers_inside : (nodes : List Head) (names : Naming Target) (order : Order) (bytes : List ℕ) (speakers : List Speaker) (old new : List View)
+    → AreInside nodes old → new ≡ old ++ speakers_views nodes names order bytes speakers → AreInside nodes new
+speakers_inside nodes names order bytes speakers old new all is =
+    subst (AreInside nodes) (sym is) (All-append (λ (v : View). v.node < length nodes) old (speakers_views nodes names order bytes speakers) all
+    (flat_map_inside nodes (speaker_views nodes names order bytes) speakers
+    (λ x. flat_map_inside nodes (λ k. views_of_target x.kind (raw_target nodes (names (speaker_number order x bytes k)))) (numbers_below x.count)
+    (λ k. target_inside nodes x.kind (names (speaker_number order x bytes k))))))
 
 -- the place of an element by the place of its node's payload
 pub place_of_element : (h : Header) (c : Catalogue) (x : Head) (at e f len : ℕ)
@@ -89,29 +83,28 @@ pub place_of_element : (h : Header) (c : Catalogue) (x : Head) (at e f len : ℕ
 place_of_element h c x at e f len is same long = rw (is, same, long) refl
 
 -- one element of a node more
-pub elements-more : (basics : List (Option ℕ)) (nodes : List Head) (names : Naming Target) (h : Header) (c : Catalogue) (x : Head)
-    (b : List ℕ) (e from len : ℕ) (leaves : List Leaf) (old items new : List View)
-    → from ≡ element_at h c x e → len ≡ struct_length c x.index → leaves ≡ leaves_of c h.width x.index
-    → items ≡ old ++ elements_said basics nodes names h c x b e
-    → new ≡ items ++ leaves_views basics nodes names h.order (part b from len) leaves
-    → new ≡ old ++ elements_said basics nodes names h c x b (e + 1)
-elements-more basics nodes names h c x b e from len leaves old items new stands long are before is =
-    joined old (elements_said basics nodes names h c x b e) (leaves_views basics nodes names h.order (part b from len) leaves) items new before is
-    ∙ ap (λ p. old ++ (elements_said basics nodes names h c x b e ++ leaves_views basics nodes names h.order (part b p len) leaves)) stands
-    ∙ ap (λ n. old ++ (elements_said basics nodes names h c x b e ++ leaves_views basics nodes names h.order (part b (element_at h c x e) n) leaves)) long
-    ∙ ap (λ xs. old ++ (elements_said basics nodes names h c x b e ++ leaves_views basics nodes names h.order (part b (element_at h c x e) (struct_length c x.index)) xs)) are
-    ∙ ap (λ vs. old ++ vs) (sym (flat_map-more (element_said basics nodes names h c x b) e))
+pub elements-more : (speakers : List Speaker) (nodes : List Head) (names : Naming Target) (h : Header) (c : Catalogue) (x : Head)
+    (b : List ℕ) (e from len : ℕ) (old items new : List View)
+    → from ≡ element_at h c x e → len ≡ struct_length c x.index
+    → items ≡ old ++ elements_said speakers nodes names h c x b e
+    → new ≡ items ++ speakers_views nodes names h.order (part b from len) speakers
+    → new ≡ old ++ elements_said speakers nodes names h c x b (e + 1)
+elements-more speakers nodes names h c x b e from len old items new stands long before is =
+    joined old (elements_said speakers nodes names h c x b e) (speakers_views nodes names h.order (part b from len) speakers) items new before is
+    ∙ ap (λ p. old ++ (elements_said speakers nodes names h c x b e ++ speakers_views nodes names h.order (part b p len) speakers)) stands
+    ∙ ap (λ n. old ++ (elements_said speakers nodes names h c x b e ++ speakers_views nodes names h.order (part b (element_at h c x e) n) speakers)) long
+    ∙ ap (λ vs. old ++ vs) (sym (flat_map-more (element_said speakers nodes names h c x b) e))
 
 -- the views of one node more
-pub nodes-more : (s : Sight) (b : List ℕ) (k : ℕ) (old items new : List View) → k < length s.nodes.now
-    → items ≡ old ++ nodes_said s b k → new ≡ items ++ node_at_said s b k → new ≡ old ++ nodes_said s b (k + 1)
-nodes-more s b k old items new lt before is =
+pub nodes-more : (names : Namings) (s : Sight) (b : List ℕ) (k : ℕ) (old items new : List View) → k < length s.nodes.now
+    → items ≡ old ++ nodes_said names s b k → new ≡ items ++ node_at_said names s b k → new ≡ old ++ nodes_said names s b (k + 1)
+nodes-more names s b k old items new lt before is =
     let nodes : List Head = s.nodes.now in
     let long : 0 + length (take k nodes) ≡ k = omega (arith, length-take-le k nodes (omega (arith, lt))) in
-    joined old (nodes_said s b k) (node_at_said s b k) items new before is
+    joined old (nodes_said names s b k) (node_at_said names s b k) items new before is
     ∙ ap (λ vs. old ++ vs)
-    (sym (ap (λ ys. flat_map (λ (p : ℕ × Head). head_said s b p.0 p.1) (enumerate_from 0 ys)) (take_more nodes k no_head lt)
-    ∙ ap (flat_map (λ (p : ℕ × Head). head_said s b p.0 p.1)) (enumerate-push 0 (take k nodes) (get_or nodes k no_head))
-    ∙ flat_map-append (λ (p : ℕ × Head). head_said s b p.0 p.1) (enumerate_from 0 (take k nodes)) ((0 + length (take k nodes), get_or nodes k no_head) ∷ [])
-    ∙ ap (λ vs. nodes_said s b k ++ vs) (append-nil (head_said s b (0 + length (take k nodes)) (get_or nodes k no_head))
-    ∙ ap (λ n. head_said s b n (get_or nodes k no_head)) long)))
+    (sym (ap (λ ys. flat_map (λ (p : ℕ × Head). head_said names s b p.0 p.1) (enumerate_from 0 ys)) (take_more nodes k no_head lt)
+    ∙ ap (flat_map (λ (p : ℕ × Head). head_said names s b p.0 p.1)) (enumerate-push 0 (take k nodes) (get_or nodes k no_head))
+    ∙ flat_map-append (λ (p : ℕ × Head). head_said names s b p.0 p.1) (enumerate_from 0 (take k nodes)) ((0 + length (take k nodes), get_or nodes k no_head) ∷ [])
+    ∙ ap (λ vs. nodes_said names s b k ++ vs) (append-nil (head_said names s b (0 + length (take k nodes)) (get_or nodes k no_head))
+    ∙ ap (λ n. head_said names s b n (get_or nodes k no_head)) long)))

@@ -6,3 +6,5 @@ pub mod Reading
 pub mod Refusals
 pub mod Steps
 pub mod Views
+pub mod Seen
+pub mod Speakers

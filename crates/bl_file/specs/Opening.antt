@@ -1,6 +1,6 @@
 -- What some bytes read as, and the checks of a file that is opened, in their order. Where a part isn't read, anything
 -- stands in its place.
-use Rattle.std.specs.Prelude.{ℕ, ◌+◌, Bool, ◌==◌, if◌then◌else◌, nat_lt, List, [], ◌∷◌, length, map, Option, Some, None, option_map, Result}
+use Rattle.std.specs.Prelude.{ℕ, ◌+◌, Bool, if◌then◌else◌, nat_lt, List, [], ◌∷◌, length, map, Option, Some, None, option_map, Result}
 use Rattle.std.specs.List.{enumerate_from}
 use Rattle.std.specs.Option.{option_or}
 use Rattle.std.specs.Result.{result_err, result_unwrap_or}
@@ -13,14 +13,14 @@ use Rattle.bl_format.specs.declared.catalogue.SdnaFault.{SdnaFault}
 use Rattle.bl_format.specs.declared.layout.LayoutFault.{LayoutFault}
 use Rattle.bl_format.specs.declared.layout.LayoutFault.TheVariants.{BadName, BasicLength, Overrun, Cyclic, DuplicateMember}
 use Rattle.bl_format.specs.declared.raw.RawKind.{RawKind}
-use Rattle.bl_format.specs.declared.raw.RawKind.TheVariants.{Bytes}
 use Rattle.bl_format.specs.Words.{find_map}
 use Rattle.bl_format.specs.Limits.{most_input_bytes}
 use Rattle.bl_format.specs.Blocks.{header_of, blocks_of}
 use Rattle.bl_format.specs.Schema.{catalogue_of}
 use Rattle.bl_format.specs.Layout.{struct_name, member_entry, name_entry, layout_fault}
-use Rattle.bl_format.specs.Nodes.{File, NodeFault, payload, catalogues_in, nodes_in, node_fault, raw_kind, BadStruct as NoStruct, ShortBlock as TooShort}
+use Rattle.bl_format.specs.Nodes.{File, NodeFault, payload, catalogues_in, nodes_in, node_fault, BadStruct as NoStruct, ShortBlock as TooShort}
 use Rattle.bl_format.specs.Graph.{file_views}
+use Rattle.bl_file.specs.Seen.{kind_seen}
 use Rattle.bl_file.specs.declared.fault.OpenFault.{OpenFault}
 use Rattle.bl_file.specs.declared.fault.OpenFault.TheVariants.{Absent, TooLarge, Head as InHead, Block as InBlock, NoCatalogue, TwoCatalogues, Sdna, Layout as InLayout, BadStruct, ShortBlock}
 
@@ -65,7 +65,7 @@ file_in b = record { header = header_in b; catalogue = catalogue_in b; nodes = n
 
 -- the kind of a node, by what all pointers say; a struct node counts as bytes
 abbrev pub kind_of : File → ℕ → Head → RawKind
-kind_of f k x = if x.index == 0 then raw_kind (file_views f) x.code x.len k else Bytes
+kind_of f k x = kind_seen (file_views f) k x
 
 -- the kinds of all nodes
 unfoldable pub kinds_in : File → List RawKind

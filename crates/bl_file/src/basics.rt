@@ -3,7 +3,7 @@ ghost use Rattle.std.specs.Prelude.{◌≡◌, if◌then◌else◌, Some, None, 
 ghost use Rattle.std.specs.Str.{bytes_eq};
 ghost use Rattle.bl_format.specs.Words.{contains};
 ghost use Rattle.bl_format.specs.Layout.{basic_named};
-ghost use Rattle.bl_file.specs.Views.{basic_length, basic_lengths};
+ghost use Rattle.bl_file.specs.Speakers.{basic_length, basic_lengths};
 
 use bl_format::Catalogue;
 use std::alloc::{AllocError, Global};

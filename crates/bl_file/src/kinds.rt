@@ -6,24 +6,82 @@ ghost use Rattle.bl_shelf.specs.Causes.{HasCause};
 ghost use Rattle.bl_file.specs.Held.{IsHeldAnd};
 ghost use Rattle.bl_file.specs.Opening.{kinds_in};
 ghost use Rattle.bl_file.specs.Outlines.{IsNodeIn, ArePairsLong, file_with, marks_of};
-ghost use Rattle.bl_file.specs.Views.{AreInside, speaking_structs, viewed_or_bytes, kind_by, kinds_by};
+ghost use Rattle.bl_file.specs.Seen.{kinds_seen, views_seen};
+ghost use Rattle.bl_file.specs.Views.{AreInside, viewed_or_bytes, kind_by, kinds_by};
 
 use crate::Payload;
 use crate::basics::basic_lengths;
 use crate::node_views::nodes_said;
-use crate::views::{Sight, speaks};
+use crate::speakers::struct_speakers;
+use crate::targets::{FileTargets, Targets};
+use crate::views::Sight;
 use bl_addresses::Table;
 use bl_format::{Head, Header, RawKind, View};
 use bl_layout::Layout;
 use bl_ptrarrays::views;
 use bl_shelf::{Shelf, ShelfFault};
-use std::alloc::{AllocError, Global};
+use std::alloc::Global;
 
 // The bytes of the longest type, which an element of any struct fits in.
 const LONGEST_TYPE: usize = 65_535;
 
-/// The kind of each node as raw data; a struct node counts as bytes. One element of a node is in
-/// memory at a time, and the views of raw nodes.
+/// The kind of each node as raw data, by what addresses name from each; a struct node counts as
+/// bytes. One element of a node is in memory at a time, and the views of raw nodes.
+pub fn raw_kinds<S: Shelf, P: Payload, T: Targets>(
+    alloc: Global,
+    payload: &mut P,
+    shelf: &mut S,
+    header: &Header,
+    layout: &Layout,
+    nodes: &[Head],
+    targets: &T,
+) -> Result<Vec<RawKind>, ShelfFault>
+    requires width { layout.now.width ≡ header.now.width }
+    requires nodes { All (IsNodeIn header.now layout.now.catalogue (P.file_size payload.old)) nodes.now }
+    requires small { P.file_size payload.old < 2 ^ 63 }
+    requires few { length nodes.now < 2 ^ 32 }
+    requires count { T.count targets.now ≡ length nodes.now }
+    requires held { IsHeldAnd (S.told shelf.old) (P.file_name payload.old) (P.agrees payload.old) }
+    ensures len { IfOk result (λ kinds. length kinds.items ≡ length nodes.now) }
+    ensures kinds { IfOk result (λ kinds.
+        IsHeldAnd (S.told shelf.old) (P.file_name payload.old) (λ b. kinds.items
+        ≡ kinds_seen nodes.now
+        (views_seen (T.names targets.now) header.now layout.now.catalogue nodes.now b))) }
+    ensures pairs { IfOk result (λ kinds. ArePairsLong nodes.now kinds.items) }
+    ensures name { P.file_name payload.new ≡ P.file_name payload.old }
+    ensures size { P.file_size payload.new ≡ P.file_size payload.old }
+    ensures agrees { IsHeldAnd (S.told shelf.old) (P.file_name payload.old) (P.agrees payload.new) }
+    ensures told { S.told shelf.new ≡ S.told shelf.old }
+    ensures room { S.room shelf.new ≡ S.room shelf.old }
+    ensures cause { HasCause (S.faults shelf.old) (S.faults shelf.new)
+        (S.misses shelf.old) (S.misses shelf.new) result }
+    ensures absent { IsErrOf result ShelfFault.Absent → S.told shelf.old ≡ None }
+{
+    let basics = basic_lengths(alloc, layout.catalogue())?;
+    let speakers = struct_speakers(alloc, layout, &basics)?;
+    let mut buffer = vec![in alloc; 0; LONGEST_TYPE]?;
+    let mut seen = Vec::new(alloc);
+    let sight = Sight {
+        header,
+        layout,
+        nodes,
+        speakers: &speakers,
+    };
+    match nodes_said(
+        &sight,
+        targets,
+        payload,
+        shelf,
+        buffer.as_mut_slice(),
+        &mut seen,
+    ) {
+        Ok(()) => kinds_by(alloc, nodes, &seen),
+        Err(fault) => Err(fault),
+    }
+}
+
+/// The kind of each node as raw data, by what addresses name in their file; a struct node counts as
+/// bytes.
 pub fn kinds_of<S: Shelf, P: Payload>(
     alloc: Global,
     payload: &mut P,
@@ -35,6 +93,7 @@ pub fn kinds_of<S: Shelf, P: Payload>(
 ) -> Result<Vec<RawKind>, ShelfFault>
     requires width { layout.now.width ≡ header.now.width }
     requires nodes { All (IsNodeIn header.now layout.now.catalogue (P.file_size payload.old)) nodes.now }
+    requires small { P.file_size payload.old < 2 ^ 63 }
     requires few { length nodes.now ≤ most_blocks }
     requires table { table.now ≡ marks_of header.now layout.now.catalogue nodes.now }
     requires held { IsHeldAnd (S.told shelf.old) (P.file_name payload.old) (P.agrees payload.old) }
@@ -52,39 +111,8 @@ pub fn kinds_of<S: Shelf, P: Payload>(
         (S.misses shelf.old) (S.misses shelf.new) result }
     ensures absent { IsErrOf result ShelfFault.Absent → S.told shelf.old ≡ None }
 {
-    let basics = basic_lengths(alloc, layout.catalogue())?;
-    let speaking = speaking_structs(alloc, layout, &basics)?;
-    let mut buffer = vec![in alloc; 0; LONGEST_TYPE]?;
-    let mut seen = Vec::new(alloc);
-    let sight = Sight {
-        header,
-        layout,
-        nodes,
-        table,
-        basics: &basics,
-        speaking: &speaking,
-    };
-    match nodes_said(&sight, payload, shelf, buffer.as_mut_slice(), &mut seen) {
-        Ok(()) => kinds_by(alloc, nodes, &seen),
-        Err(fault) => Err(fault),
-    }
-}
-
-// By the number of a struct, whether its leaves say anything.
-fn speaking_structs(
-    alloc: Global,
-    layout: &Layout,
-    basics: &[Option<u8>],
-) -> Result<Vec<bool>, AllocError>
-    ensures { IfOk result (λ speaking. speaking.items
-        ≡ speaking_structs layout.now.catalogue layout.now.width basics.now) }
-{
-    let count = layout.struct_count();
-    let mut speaking = Vec::with_capacity(alloc, count as usize)?;
-    for s in 0..count {
-        speaking.push(speaks(basics, layout.leaves(s)))?;
-    }
-    Ok(speaking)
+    let targets = FileTargets { table };
+    raw_kinds(alloc, payload, shelf, header, layout, nodes, &targets)
 }
 
 // The kinds of nodes by the views of the raw ones.

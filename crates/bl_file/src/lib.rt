@@ -13,14 +13,18 @@ mod opened;
 mod outline;
 mod payload;
 mod reading;
+mod speakers;
+mod targets;
 mod views;
 mod whole;
 
 pub use bl_format::{BlockFault, Head, HeadFault, Header, LayoutFault, RawKind, SdnaFault};
 pub use fault::OpenFault;
+pub use kinds::raw_kinds;
 pub use opened::open;
 pub use outline::{Opened, Outline};
 pub use payload::Payload;
+pub use targets::Targets;
 pub use whole::WholePayload;
 
 #[cfg(test)]

@@ -1,14 +1,13 @@
 // What pointers say of raw nodes. Views of struct nodes aren't kept.
-ghost use Rattle.std.specs.Prelude.{◌≡◌, ◌++◌, All, None, OnOk, length, slice_index_or};
-ghost use Rattle.bl_format.specs.Nodes.{target_of};
-ghost use Rattle.bl_members.specs.Leaf.{FitsIn, HoldsNumbers};
-ghost use Rattle.bl_file.specs.Views.{IsReadable, is_raw, raw_target, said_by, element_views, leaf_views, leaves_views, speaks, views_of_target};
+ghost use Rattle.std.specs.Prelude.{◌≡◌, ◌<◌, ◌++◌, All, None, OnOk, length};
+ghost use Rattle.bl_file.specs.Speakers.{IsHeard};
+ghost use Rattle.bl_file.specs.Views.{is_raw, raw_target, element_views, speaker_views, speakers_views, views_of_target};
 
-use bl_addresses::Table;
-use bl_format::{Head, Header, Kind, Leaf, RawKind, View};
+use crate::speakers::{Speaker, speaker_number};
+use crate::targets::Targets;
+use bl_format::{Head, Header, RawKind, View};
 use bl_layout::Layout;
-use bl_members::read_leaf;
-use bl_ptrarrays::view_of;
+use bl_num::Items;
 use std::alloc::AllocError;
 
 /// By what the pointers of a file are read.
@@ -16,74 +15,75 @@ use std::alloc::AllocError;
 pub struct Sight<'a> {
     pub header: &'a Header,
     pub layout: &'a Layout,
-    /// The nodes, and which of them addresses name.
     pub nodes: &'a [Head],
-    pub table: &'a Table,
-    /// By the number of a type, the bytes of the basic type that it is.
-    pub basics: &'a [Option<u8>],
-    /// By the number of a struct, whether its leaves say anything.
-    pub speaking: &'a [bool],
+    /// By the number of a struct, its leaves that say anything.
+    pub speakers: &'a [Items<Speaker>],
 }
 
-/// The views of some leaves, in the bytes of an element of their struct.
-pub fn leaves_views(
+/// The views of some leaves of a node, in the bytes of an element of their struct.
+pub fn speakers_views<T: Targets>(
     sight: &Sight,
-    group: u32,
-    leaves: &[Leaf],
+    targets: &T,
+    number: u32,
+    speakers: &[Speaker],
     bytes: &[u8],
     seen: &mut Vec<View>,
 ) -> Result<(), AllocError>
-    requires { All (IsReadable (length bytes.now)) leaves.now }
+    requires number { number < T.count targets.now }
+    requires null { T.names targets.now number 0 ≡ None }
+    requires heard { All (IsHeard (length bytes.now)) speakers.now }
     ensures { OnOk result (seen.new.items ≡ seen.old.items
-        ++ leaves_views sight.now.basics.now sight.now.nodes.now (target_of sight.now.table.now group)
-        sight.now.header.now.order bytes.now leaves.now) }
+        ++ speakers_views sight.now.nodes.now (T.names targets.now number)
+        sight.now.header.now.order bytes.now speakers.now) }
 {
-    for leaf in leaves {
-        leaf_views(sight, group, leaf, bytes, seen)?;
+    for speaker in speakers {
+        speaker_views(sight, targets, number, *speaker, bytes, seen)?;
     }
     Ok(())
 }
 
-// The views of a leaf.
-fn leaf_views(
+// The views of all elements of a leaf.
+fn speaker_views<T: Targets>(
     sight: &Sight,
-    group: u32,
-    leaf: &Leaf,
+    targets: &T,
+    number: u32,
+    speaker: Speaker,
     bytes: &[u8],
     seen: &mut Vec<View>,
 ) -> Result<(), AllocError>
-    requires { IsReadable (length bytes.now) leaf.now }
+    requires number { number < T.count targets.now }
+    requires null { T.names targets.now number 0 ≡ None }
+    requires heard { IsHeard (length bytes.now) speaker }
     ensures { OnOk result (seen.new.items ≡ seen.old.items
-        ++ leaf_views sight.now.nodes.now (target_of sight.now.table.now group)
-        sight.now.header.now.order bytes.now leaf.now (said_by sight.now.basics.now leaf.now.kind)) }
+        ++ speaker_views sight.now.nodes.now (T.names targets.now number)
+        sight.now.header.now.order bytes.now speaker) }
 {
-    match said_by(sight.basics, leaf.kind) {
-        Some(kind) => element_views(sight, group, leaf, kind, bytes, seen),
-        None => Ok(()),
-    }
-}
-
-// The views of all elements of a leaf, which say this.
-fn element_views(
-    sight: &Sight,
-    group: u32,
-    leaf: &Leaf,
-    kind: RawKind,
-    bytes: &[u8],
-    seen: &mut Vec<View>,
-) -> Result<(), AllocError>
-    requires fits { FitsIn leaf.now (length bytes.now) }
-    requires number { HoldsNumbers leaf.now }
-    ensures { OnOk result (seen.new.items ≡ seen.old.items
-        ++ element_views sight.now.nodes.now (target_of sight.now.table.now group)
-        sight.now.header.now.order bytes.now leaf.now kind leaf.now.count) }
-{
-    for element in 0..leaf.count {
-        let address = read_leaf(leaf, sight.header.order, bytes, element);
-        let target = raw_target(sight.nodes, sight.table.resolve(group, address));
-        add_view(kind, target, seen)?;
+    for element in 0..speaker.count {
+        let address = speaker_number(speaker, sight.header.order, bytes, element);
+        let target = named(sight.nodes, targets, number, address);
+        add_view(speaker.kind, target, seen)?;
     }
     Ok(())
+}
+
+// What an address names from a node, where it is a raw node. Nothing is looked up at the address 0.
+fn named<T: Targets>(nodes: &[Head], targets: &T, number: u32, address: u64) -> Option<u32>
+    requires number { number < T.count targets.now }
+    requires null { T.names targets.now number 0 ≡ None }
+    ensures { result ≡ raw_target nodes.now (T.names targets.now number address) }
+{
+    if address == 0 {
+        return None;
+    }
+    raw_target(nodes, targets.target(number, address))
+}
+
+/// The address 0 names nothing.
+pub fn null_named<T: Targets>(targets: &T, number: u32) -> Option<u32>
+    requires { number < T.count targets.now }
+    ensures { T.names targets.now number 0 ≡ None }
+{
+    targets.target(number, 0)
 }
 
 // Adds a view of what is named, if anything is.
@@ -94,37 +94,6 @@ fn add_view(kind: RawKind, target: Option<u32>, seen: &mut Vec<View>) -> Result<
         seen.push(View { node, kind })?;
     }
     Ok(())
-}
-
-/// Whether some leaf says anything.
-pub fn speaks(basics: &[Option<u8>], leaves: &[Leaf]) -> bool
-    ensures { result ≡ speaks basics.now leaves.now }
-{
-    leaves
-        .iter()
-        .any(|leaf| said_by(basics, leaf.kind).is_some())
-}
-
-// What the pointers of a leaf's kind say.
-fn said_by(basics: &[Option<u8>], kind: Kind) -> Option<RawKind>
-    ensures { result ≡ said_by basics.now kind }
-{
-    match kind {
-        Kind::Pointer { depth, type_number } => view_of(depth, basic_at(basics, type_number)),
-        Kind::Whole(_) => None,
-        Kind::Bits(_) => None,
-        Kind::Opaque => None,
-    }
-}
-
-// The bytes of the basic type of a number.
-fn basic_at(basics: &[Option<u8>], type_number: u16) -> Option<u8>
-    ensures { result ≡ slice_index_or basics.now type_number None }
-{
-    basics
-        .get(usize::from(type_number))
-        .copied()
-        .unwrap_or(None)
 }
 
 // What is named, where it is a raw node.

@@ -1,4 +1,5 @@
-use Rattle.std.proofs.Common.{◌+◌, length, sym, subst, ◌∙◌, arith}
+use Rattle.std.proofs.Common.{◌+◌, List, length, sym, subst, ◌∙◌, arith}
+use Rattle.bl_format.specs.declared.raw.RawKind.{RawKind}
 use Rattle.bl_file.proofs.KindLemmas.{KindsSoFar, viewed-long, kinds-more, kinds-all, kinds-long}
 use Rattle.bl_file.proofs.PairLemmas.{pairs_long}
 use Rattle.bl_file.proofs.kinds.kinds_by.Goals as goal
@@ -13,7 +14,7 @@ loop-k-preserved c =
     let nodes = c.args.nodes.now in
     let seen = c.args.seen.now in
     let k = c.loop-k.k in
-    subst (KindsSoFar nodes seen (k + 1)) (sym c.in_ok-push.ensures.items)
+    subst (KindsSoFar nodes seen (k + 1)) (sym {A = List RawKind} c.in_ok-push.ensures.items)
     (kinds-more nodes seen c.as_slice-viewed.result.now c.loop-k.kinds.items k _ _ c.kind_by.result
     (c.as_slice-viewed.ensures.value ∙ c.in-Ok.ensures) c.loop-k-test.true c.kind_by.ensures c.loop-k.invariant)
 

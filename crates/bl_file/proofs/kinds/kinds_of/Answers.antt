@@ -1,55 +1,19 @@
-use Rattle.std.proofs.Common.{◌≡◌, ◌++◌, List, ℕ, length, sym, ap, ◌∙◌}
+use Rattle.std.proofs.Common.{List, length, ap, ◌∙◌}
 use Rattle.std.proofs.lemmas.Result.{IfOk-weaker}
-use Rattle.bl_file.specs.declared.views.Sight.{Sight}
-use Rattle.bl_file.specs.Views.{basic_lengths, speaking_structs, nodes_said, kinds_by, IsSight}
-use Rattle.bl_file.proofs.ReadLemmas.{held_both, HasCause-memory}
-use Rattle.bl_file.proofs.KindLaws.{kinds_of_file}
+use Rattle.bl_format.specs.Nodes.{Mark}
+use Rattle.bl_file.proofs.ReadLemmas.{held_so}
+use Rattle.bl_file.proofs.KindLaws.{kinds_by_table}
+use Rattle.bl_file.proofs.TableLemmas.{marks-long}
 use Rattle.bl_file.proofs.kinds.kinds_of.Goals as goal
 
-pub nodes_said-requires-clause-sight : goal.nodes_said-requires-clause-sight
-nodes_said-requires-clause-sight g c =
-    let of = c.args.layout.now in
-    record {
-      width = c.requires.width;
-      has_layout = c.catalogue.ensures.has_layout;
-      nodes = c.requires.nodes;
-      table = c.requires.table;
-      basics = c.deref-2.ensures.value ∙ c.in_ok-basics.ensures ∙ ap basic_lengths c.catalogue.ensures.is;
-      speaking = c.deref-3.ensures.value ∙ c.in_ok-speaking.ensures
-          ∙ ap (speaking_structs of.catalogue of.width) (c.deref.ensures.value ∙ sym c.deref-2.ensures.value);
-    }
+pub raw_kinds-requires-clause-count : goal.raw_kinds-requires-clause-count
+raw_kinds-requires-clause-count g c =
+    ap (λ (ms : List Mark). length ms) c.requires.table
+    ∙ marks-long c.args.header.now c.args.layout.now.catalogue c.args.nodes.now
 
-pub returns-in-Ok-clause-kinds : goal.returns-in-Ok-clause-kinds
-returns-in-Ok-clause-kinds g c =
-    let of = c.args.layout.now in
-    let stays = c.in-Ok.ensures.stays in
-    let n = g.P.Payload.file_size c.args.payload.now in
-    let sight : Sight = record {
-      header = c.args.header;
-      layout = c.args.layout;
-      nodes = c.args.nodes;
-      table = c.args.table;
-      basics = c.deref-2.result;
-      speaking = c.deref-3.result;
-    } in
-    let is : IsSight sight n = record {
-      width = c.requires.width;
-      has_layout = c.catalogue.ensures.has_layout;
-      nodes = c.requires.nodes;
-      table = c.requires.table;
-      basics = c.deref-2.ensures.value ∙ c.in_ok-basics.ensures ∙ ap basic_lengths c.catalogue.ensures.is;
-      speaking = c.deref-3.ensures.value ∙ c.in_ok-speaking.ensures
-          ∙ ap (speaking_structs of.catalogue of.width) (c.deref.ensures.value ∙ sym c.deref-2.ensures.value);
-    } in
-    IfOk-weaker c.kinds_by.result (λ kinds. kinds.items ≡ kinds_by c.args.nodes.now c.deref-in-Ok.result.now) _
-    (λ kinds are. held_both (g.S.Shelf.told c.args.shelf.now) (g.P.Payload.file_name c.args.payload.now)
-    (λ (b : List ℕ). c.nodes_said.new.seen.items ≡ c.new-seen.result.items ++ nodes_said sight b (length c.args.nodes.now))
-    (g.P.Payload.agrees c.nodes_said.new.payload) _ c.in-Ok.ensures.said stays.agrees
-    (λ b said agreed. kinds_of_file sight n b c.new-seen.result.items c.nodes_said.new.seen.items kinds.items is
-    (g.met.P.Payload.agreed_size c.nodes_said.new.payload b agreed ∙ stays.size) c.new-seen.ensures.items said
-    (are ∙ ap (kinds_by c.args.nodes.now) c.deref-in-Ok.ensures.value)))
-    c.kinds_by.ensures.kinds
-
-pub returns-in-Ok-clause-cause : goal.returns-in-Ok-clause-cause
-returns-in-Ok-clause-cause g c =
-    HasCause-memory c.kinds_by.result _ _ _ _ c.in-Ok.ensures.stays.faults_grow c.in-Ok.ensures.stays.misses_grow c.kinds_by.ensures.fault
+pub returns-clause-kinds : goal.returns-clause-kinds
+returns-clause-kinds g c =
+    IfOk-weaker c.raw_kinds.result _ _
+    (λ kinds held. held_so (g.S.Shelf.told c.args.shelf.now) (g.P.Payload.file_name c.args.payload.now) _ _ held
+    (λ b are. kinds_by_table c.args.header.now c.args.layout.now.catalogue c.args.nodes.now c.args.table.now b kinds.items c.requires.table are))
+    c.raw_kinds.ensures.kinds

@@ -1,5 +1,4 @@
 use Rattle.std.proofs.Common.{◌≡◌, ◌++◌, ℕ, List, length}
-use Rattle.bl_format.specs.Nodes.{target_of}
 use Rattle.bl_file.specs.Held.{IsHeldAnd}
 use Rattle.bl_file.specs.Views.{AreInside, StaysRead, elements_said}
 use Rattle.bl_file.proofs.node_views.elements_said.Given as goal
@@ -9,7 +8,7 @@ invariant-loop-element g l =
     let told = g.S.Shelf.told in
     let name = g.P.Payload.file_name in
     (IsHeldAnd (told l.initial.shelf) (name l.initial.payload) (λ (b : List ℕ). l.seen.items ≡ l.initial.seen.items
-    ++ elements_said l.sight.basics.now l.sight.nodes.now (target_of l.sight.table.now l.group) l.sight.header.now l.sight.layout.now.catalogue l.node b l.element))
+    ++ elements_said l.speakers l.sight.nodes.now (g.T.Targets.names l.targets l.number) l.sight.header.now l.sight.layout.now.catalogue l.node b l.element))
     × AreInside l.sight.nodes.now l.seen.items
     × (length l.bytes ≡ length l.initial.bytes)
     × StaysRead (told l.initial.shelf) (told l.shelf) (g.S.Shelf.room l.initial.shelf) (g.S.Shelf.room l.shelf)

@@ -1,8 +1,13 @@
-use Rattle.std.proofs.Common.{◌≡◌, ◌++◌, List, ℕ, length, sym, ap, ◌∙◌, arith}
+use Rattle.std.proofs.Common.{◌≡◌, ◌++◌, List, [], ℕ, length, refl, sym, ap, ◌∙◌, arith}
+use Rattle.std.proofs.lemmas.Bool.{eqb-true}
 use Rattle.std.proofs.lemmas.Result.{on_ok_weaker}
 use Rattle.bl_file.proofs.ReadLemmas.{held_so}
-use Rattle.bl_file.proofs.SightLemmas.{length_short, marks-long, node_is_said}
+use Rattle.bl_file.proofs.SightLemmas.{length_short}
+use Rattle.bl_file.proofs.SpeakerLemmas.{node_struct, node_heard, node_says, node_says_nothing}
 use Rattle.bl_file.proofs.node_views.node_said.Goals as goal
+
+pub bounds-sight-node : goal.bounds-sight-node
+bounds-sight-node g c = node_struct c.args.sight.now _ c.args.number _ c.requires.sight c.requires.number c.if-node-eq0.false
 
 pub split_at_mut-bytes-requires : goal.split_at_mut-bytes-requires
 split_at_mut-bytes-requires g c =
@@ -10,17 +15,23 @@ split_at_mut-bytes-requires g c =
     let short = length_short of.catalogue of.width _ c.length.result c.length.ensures c.requires.sight.has_layout in
     omega (arith, short, c.requires.buffer)
 
-pub group_of-group-requires : goal.group_of-group-requires
-group_of-group-requires g c =
-    let s = c.args.sight.now in
-    omega (arith, c.requires.number, marks-long s.header.now s.layout.now.catalogue s.nodes.now, ap length c.requires.sight.table)
+pub elements_said-requires-clause-heard : goal.elements_said-requires-clause-heard
+elements_said-requires-clause-heard g c =
+    node_heard c.args.sight.now _ c.args.number _ c.requires.sight c.requires.number c.if-node-eq0.false
+    c.as_slice-speakers.result.now _ (c.as_slice-speakers.ensures)
+
+pub returns-then-is_empty-clause-said : goal.returns-then-is_empty-clause-said
+returns-then-is_empty-clause-said g c =
+    held_so (g.S.Shelf.told c.args.shelf.now) (g.P.Payload.file_name c.args.payload.now) _ _ c.requires.held
+    (λ b agrees. node_says_nothing c.args.sight.now _ c.args.number _ c.requires.sight c.requires.number c.if-node-eq0.false
+    (g.T.Targets.names c.args.targets.now) b c.as_slice-speakers.result.now _ c.args.seen.now.items
+    (c.as_slice-speakers.ensures) (eqb-true _ 0 (sym c.is_empty.ensures ∙ c.if-is_empty.true)))
 
 pub returns-clause-said : goal.returns-clause-said
 returns-clause-said g c =
-    let s = c.args.sight.now in
     on_ok_weaker c.elements_said.result
     (λ held. held_so (g.S.Shelf.told c.args.shelf.now) (g.P.Payload.file_name c.args.payload.now) _ _ held
     (λ b is. is ∙ ap (λ vs. c.args.seen.now.items ++ vs)
-    (node_is_said s b c.args.number c.group_of-group.result _ c.requires.sight.table c.requires.number
-    (sym c.is_speaking.ensures ∙ c.if-not-is_speaking.false) c.group_of-group.ensures)))
+    (node_says c.args.sight.now _ c.args.number _ c.requires.sight c.requires.number c.if-node-eq0.false
+    (g.T.Targets.names c.args.targets.now) b c.as_slice-speakers.result.now _ (c.as_slice-speakers.ensures))))
     c.elements_said.ensures.said

@@ -1,9 +1,0 @@
-use Rattle.std.proofs.Common.{◌≡◌, map}
-use Rattle.bl_format.specs.Words.{numbers_below}
-use Rattle.bl_format.specs.Layout.{leaves_of}
-use Rattle.bl_file.specs.Views.{speaks}
-use Rattle.bl_file.proofs.kinds.speaking_structs.Given as goal
-
-abbrev pub invariant-loop-s : goal.invariant-loop-s
-invariant-loop-s l =
-    l.speaking.items ≡ map (λ s. speaks l.basics (leaves_of l.layout.catalogue l.layout.width s)) (numbers_below l.s)
