@@ -1,6 +1,7 @@
 pub mod Opens
 pub mod Names
 pub mod Outcomes
+pub mod OwnDrafts
 pub mod Gathers
 pub mod Refusals
 pub mod Acceptance

@@ -4,9 +4,10 @@ use Rattle.std.specs.Prelude.{IfErr}
 use Rattle.std.proofs.lemmas.Result.{IfErr-weaker}
 use Rattle.bl_commands.specs.declared.ending.Ending.{Ending}
 use Rattle.bl_commands.specs.declared.ending.Ending.TheVariants as endings
-use Rattle.bl_shelf.specs.declared.shelf.ShelfFault.{ShelfFault}
-use Rattle.bl_shelf.specs.declared.shelf.ShelfFault.TheVariants as shelf
-use Rattle.bl_cli.specs.Run.{IsReadingEnding, NamesInput, ComesFromOutside}
+use Rattle.bl_writer.specs.declared.fault.WriteFault.{WriteFault}
+use Rattle.bl_writer.specs.declared.fault.WriteFault.TheVariants as faults
+use Rattle.bl_cli.specs.Prepared.{IsOutside, IsWriteEnding}
+use Rattle.bl_cli.specs.Run.{NamesInput, ComesFromOutside}
 
 -- an ending from outside names none
 outside_names : (input : List ℕ) (e : Ending) → ComesFromOutside e → NamesInput input e
@@ -24,9 +25,13 @@ outside_names input endings.Sink outside = tt
 pub outside_named : {T : Type 0} (input : List ℕ) (r : Result T Ending) → IfErr r ComesFromOutside → IfErr r (NamesInput input)
 outside_named input r outside = IfErr-weaker r ComesFromOutside (NamesInput input) (outside_names input) outside
 
--- the fault of a call that reads the input names it
-pub reading_names : (fault : ShelfFault) (input : List ℕ) (e : Ending) → IsReadingEnding fault input e → NamesInput input e
-reading_names shelf.Absent input e (inl is) = subst (NamesInput input) (sym is) refl
-reading_names shelf.Absent input e (inr none) = subst (NamesInput input) (sym none) tt
-reading_names shelf.Failed input e is = subst (NamesInput input) (sym is) tt
-reading_names shelf.NoMemory input e is = subst (NamesInput input) (sym is) tt
+-- a fault of writing what is read of the input names it
+pub write_names : (fault : WriteFault) (input : List ℕ) (e : Ending) → IsWriteEnding fault input e → NamesInput input e
+write_names faults.Absent input e (inl is) = subst (NamesInput input) (sym is) refl
+write_names faults.Absent input e (inr none) = subst (NamesInput input) (sym none) tt
+write_names faults.Device input e is = subst (NamesInput input) (sym is) tt
+write_names faults.NoMemory input e is = subst (NamesInput input) (sym is) tt
+write_names (faults.FloatCast t member) input e is = subst (NamesInput input) (sym is) tt
+write_names (faults.TooManyBlocks n) input e is = subst (NamesInput input) (sym is) tt
+write_names (faults.BlockTooLong n) input e is = subst (NamesInput input) (sym is) tt
+write_names (faults.FileTooLarge n) input e is = subst (NamesInput input) (sym is) tt

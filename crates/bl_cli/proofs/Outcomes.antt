@@ -5,6 +5,7 @@ use Rattle.std.specs.Result.{result_err}
 use Rattle.std.specs.List.{enumerate_from}
 use Rattle.std.specs.FinMap.{get}
 use Rattle.std.proofs.lemmas.List.{length-map}
+use Rattle.std.proofs.lemmas.List.FromFn.{length-enumerate_from}
 use Rattle.bl_commands.specs.declared.ending.Ending.{Ending}
 use Rattle.bl_commands.specs.Texts.{Text, summary_line}
 use Rattle.bl_commands.specs.Checks.{first_ending}
@@ -15,12 +16,11 @@ use Rattle.bl_format.specs.declared.catalogue.Catalogue.{Catalogue}
 use Rattle.bl_format.specs.Limits.{most_blocks}
 use Rattle.bl_format.specs.Layout.{HasLayout, struct_numbers}
 use Rattle.bl_format.specs.Nodes.{File}
-use Rattle.bl_format.specs.Graph.{graph}
-use Rattle.bl_selection.specs.Selection.{rebuilt_graph}
-use Rattle.bl_selection.specs.Written.{written_form}
+use Rattle.bl_selection.specs.declared.draft.Draft.{Draft}
+use Rattle.bl_selection.specs.Selection.{is_kept, whole_selection, selection_graph, rebuilt_graph}
 use Rattle.bl_selection.specs.Committed.{IsRebuilt, IsConverted}
-use Rattle.bl_selection.proofs.OwnFormGraph.{rebuilt_graph-own}
-use Rattle.bl_selection.proofs.OwnForm.{own_form-stands}
+use Rattle.bl_selection.proofs.RebuiltStands.{rebuilt_graph-stands}
+use Rattle.bl_selection.proofs.OwnForm.{rebuilt_fits-own}
 use Rattle.bl_selection.proofs.SameWidth.{own_form-converted}
 use Rattle.bl_answers.specs.Printed.{schema_line, struct_lines, schema_text}
 use Rattle.bl_shelf.specs.Told.{Told, Held, held_of, bytes_under, commit_in, abandon_in}
@@ -31,6 +31,9 @@ use Rattle.bl_file.specs.declared.fault.OpenFault.{OpenFault}
 use Rattle.bl_file.specs.Opening.{header_in, catalogue_in, file_in, open_fault}
 use Rattle.bl_file.proofs.AcceptedPasses.{opens_few}
 use Rattle.bl_file.specs.Outlines.{IsSound, StandsFor}
+use Rattle.bl_draft.specs.Own.{outlined}
+use Rattle.bl_writer.specs.Rendering.{staged_as}
+use Rattle.bl_writer.specs.Outputs.{selection_form}
 use Rattle.bl_cli.specs.Opening.{open_ending, bytes_held, input_checks}
 use Rattle.bl_cli.specs.Outcome.{Effect, unless_ending, files_with_effect, convert_graph, convert_bytes, convert_line, convert_effect, convert_outcome, schema_effect, schema_outcome}
 use Rattle.bl_cli.specs.Accomplished.{IsAcceptedFile, IsConvertedFrom, IsCommitted, IsPrinted}
@@ -60,73 +63,88 @@ unfolding convert_outcome
 convert_checked None input name e checked = tt
 convert_checked (Some t) input name e checked = subst (λ (o : Option Ending). IsChecked o e) (sym (ends_by (first_ending (input_checks t.held input)) (convert_effect (bytes_held t.held input) name))) checked
 
--- the bytes in which an accepted file is written in its own form, and what these are
-abbrev own_bytes : List ℕ → List ℕ
-own_bytes b = written_form (file_in b).header (file_in b).catalogue (graph (file_in b))
+-- ---- what is rendered
 
-length-enumerate : {X : Type 0} (k : ℕ) (xs : List X) → length (enumerate_from k xs) ≡ length xs
-length-enumerate k [] = refl
-length-enumerate k (x ∷ xs) = ap suc (length-enumerate (k + 1) xs)
+-- the draft of all nodes of an opened file, under the file's own header and catalogue
+abbrev pub own_draft : Outline → Draft
+own_draft o = whole_selection (outlined o []) o.header o.layout.catalogue
 
-length-graph : (f : File) → length (graph f) ≡ length f.nodes
-unfolding graph
-length-graph f = length-map (enumerate_from 0 f.nodes) _ ∙ length-enumerate 0 f.nodes
+-- it is that of the bytes for which the outline stands
+draft_of_bytes : (b : List ℕ) (o : Outline) → StandsFor b o → own_draft o ≡ whole_selection (file_in b) (header_in b) (catalogue_in b)
+unfolding is_kept
+draft_of_bytes b o stands = ap (λ (f : File). whole_selection f f.header f.catalogue) (sym stands.file)
+
+length-selection_graph : (files : List File) (d : Draft) → length (selection_graph files d) ≡ length d.entries
+unfolding selection_graph
+length-selection_graph files d = length-map (enumerate_from 0 d.entries) _ ∙ length-enumerate_from 0 d.entries
 
 -- what is opened of a file, as far as it is wanted here
 module _ (b : List ℕ) (o : Outline) (sound : IsSound o) (stands : StandsFor b o) where
   few : length (file_in b).nodes ≤ most_blocks
   few = let own = sound.few in subst (λ (f : File). length f.nodes ≤ most_blocks) (sym stands.file) own
 
-  graph_is : convert_graph b ≡ graph (file_in b)
-  graph_is = rebuilt_graph-own b (file_in b) stands.bytes stands.accepted
+  graph_is : selection_graph (file_in b ∷ []) (own_draft o) ≡ convert_graph b
+  unfolding rebuilt_graph
+  graph_is = ap (selection_graph (file_in b ∷ [])) (draft_of_bytes b o stands)
 
-  bytes_are : convert_bytes b ≡ own_bytes b
-  bytes_are = ap (written_form (header_in b) (catalogue_in b)) graph_is
+  bytes_are : selection_form (file_in b ∷ []) (own_draft o) ≡ convert_bytes b
+  unfolding rebuilt_graph
+  bytes_are = ap (selection_form (file_in b ∷ [])) (draft_of_bytes b o stands)
 
-  line_is : convert_line b ≡ summary_line (length o.nodes) (length (own_bytes b))
+  line_is : convert_line b ≡ summary_line (length (own_draft o).entries) (length (convert_bytes b))
   line_is =
-      let nodes : length (graph (file_in b)) ≡ length o.nodes = length-graph (file_in b) ∙ ap (λ (f : File). length f.nodes) stands.file in
-      rw (bytes_are, graph_is, nodes) refl
+      let count : length (convert_graph b) ≡ length (own_draft o).entries = ap length (sym graph_is) ∙ length-selection_graph (file_in b ∷ []) (own_draft o) in
+      ap (λ (n : ℕ). summary_line n (length (convert_bytes b))) count
 
   has_layout : HasLayout (file_in b).catalogue (file_in b).header.width
   has_layout =
       let own : HasLayout o.layout.catalogue o.header.width = subst (HasLayout o.layout.catalogue) sound.width sound.has_layout in
       subst (λ (f : File). HasLayout f.catalogue f.header.width) (sym stands.file) own
 
-  converted : IsConverted b None None None (own_bytes b)
-  converted = own_form-converted b (own_bytes b) (file_in b) stands.accepted has_layout (own_form-stands b (file_in b) stands.bytes stands.accepted few)
+  converted : IsConverted b None None None (convert_bytes b)
+  converted =
+      own_form-converted b (convert_bytes b) (file_in b) stands.accepted has_layout
+      (rebuilt_graph-stands b (file_in b) (header_in b) (catalogue_in b) stands.bytes stands.accepted (rebuilt_fits-own b (file_in b) stands.bytes stands.accepted few))
 
   conversion_of : (t : Told) (input name line : List ℕ) (told' : Option Told) → get t.held input ≡ Some b → first_ending (input_checks t.held input) ≡ None
-      → line ≡ summary_line (length o.nodes) (length (own_bytes b))
-      → told' ≡ Some (record { held = t.held; staged = Some (record { name = name; bytes = own_bytes b }) }) → IsStaged t input name line told'
+      → line ≡ summary_line (length (own_draft o).entries) (length (convert_bytes b))
+      → told' ≡ Some (record { held = t.held; staged = Some (record { name = name; bytes = convert_bytes b }) }) → IsStaged t input name line told'
   unfolding convert_outcome
   conversion_of t input name line told' is passes says staged = record {
-    bytes = own_bytes b;
+    bytes = convert_bytes b;
     known =
         takes_effect (first_ending (input_checks t.held input)) (convert_effect (bytes_held t.held input) name) passes
         ∙ ap (λ (x : List ℕ). Ok (convert_effect x name)) (held_bytes t.held input b is)
-        ∙ ap Ok (λ i. record { file = Some (record { name = name; bytes = bytes_are i }); text = (line_is ∙ sym says) i });
+        ∙ ap Ok (λ i. record { file = Some (record { name = name; bytes = convert_bytes b }); text = (line_is ∙ sym says) i });
     converted = record { old = b; input_held = is; conversion = converted };
     staged = staged;
   }
 
-staged_of : (t : Told) (bytes : Option (List ℕ)) (Agrees : List ℕ → Type 0) (input name line : List ℕ) (told' : Option Told) (o : Outline) (blocks size : ℕ) → bytes_under input t ≡ bytes → IsSound o
-    → first_ending (input_checks t.held input) ≡ None → blocks ≡ length o.nodes → line ≡ summary_line blocks size
-    → IsSomeAnd bytes (λ b. Agrees b × StandsFor b o) → IsSomeAnd bytes (λ b. size ≡ length (own_bytes b))
-    → IsSomeAnd bytes (λ b. told' ≡ Some (record { held = t.held; staged = Some (record { name = name; bytes = own_bytes b }) })) → IsStaged t input name line told'
-staged_of t None Agrees input name line told' o blocks size is sound passes count says stands bytes staged = absurd stands
-staged_of t (Some b) Agrees input name line told' o blocks size is sound passes count says stands bytes staged =
-    conversion_of b o sound stands.1 t input name line told' is passes (says ∙ ap (λ (n : ℕ). summary_line n size) count ∙ ap (summary_line (length o.nodes)) bytes) staged
+-- the bytes of a selection are staged under a name
+abbrev IsStagedForm : Option Told → Option Told → List ℕ → Draft → List ℕ → Type 0
+IsStagedForm told told' name d b = told' ≡ option_map (staged_as name (selection_form (file_in b ∷ []) d)) told
+
+staged_of : (t : Told) (bytes : Option (List ℕ)) (Agrees : List ℕ → Type 0) (input name line : List ℕ) (told' : Option Told) (o : Outline) (d : Draft) (blocks size : ℕ)
+    → bytes_under input t ≡ bytes → IsSound o → d ≡ own_draft o
+    → first_ending (input_checks t.held input) ≡ None → blocks ≡ length d.entries → line ≡ summary_line blocks size
+    → IsSomeAnd bytes (λ b. Agrees b × StandsFor b o) → IsSomeAnd bytes (λ b. size ≡ length (selection_form (file_in b ∷ []) d))
+    → IsSomeAnd bytes (IsStagedForm (Some t) told' name d) → IsStaged t input name line told'
+staged_of t None Agrees input name line told' o d blocks size is sound own passes count says stands bytes staged = absurd stands
+staged_of t (Some b) Agrees input name line told' o d blocks size is sound own passes count says stands bytes staged =
+    let form : selection_form (file_in b ∷ []) d ≡ convert_bytes b = ap (selection_form (file_in b ∷ [])) own ∙ bytes_are b o sound stands.1 in
+    conversion_of b o sound stands.1 t input name line told' is passes
+    (says ∙ (λ i. summary_line (count i) (bytes i)) ∙ (λ i. summary_line (length (own i).entries) (length (form i))))
+    (staged ∙ ap (λ (x : List ℕ). Some (staged_as name x t)) form)
 
 -- what is rendered of an opened file is a conversion of it
-pub convert_staged : (told told' : Option Told) (Agrees : List ℕ → Type 0) (input name line : List ℕ) (o : Outline) (blocks size : ℕ) → IsSound o
-    → IfSome told (λ t. first_ending (input_checks t.held input) ≡ None) → blocks ≡ length o.nodes → line ≡ summary_line blocks size
-    → IsHeldAnd told input (λ b. Agrees b × StandsFor b o) → IsHeldAnd told input (λ b. size ≡ length (own_bytes b))
-    → IsHeldAnd told input (λ b. told' ≡ option_map (λ t. record { held = t.held; staged = Some (record { name = name; bytes = own_bytes b }) }) told)
+pub convert_staged : (told told' : Option Told) (Agrees : List ℕ → Type 0) (input name line : List ℕ) (o : Outline) (d : Draft) (blocks size : ℕ) → IsSound o → d ≡ own_draft o
+    → IfSome told (λ t. first_ending (input_checks t.held input) ≡ None) → blocks ≡ length d.entries → line ≡ summary_line blocks size
+    → IsHeldAnd told input (λ b. Agrees b × StandsFor b o) → IsHeldAnd told input (λ b. size ≡ length (selection_form (file_in b ∷ []) d))
+    → IsHeldAnd told input (IsStagedForm told told' name d)
     → IfSome told (λ t. IsStaged t input name line told')
-convert_staged None told' Agrees input name line o blocks size sound passes count says stands bytes staged = tt
-convert_staged (Some t) told' Agrees input name line o blocks size sound passes count says stands bytes staged =
-    staged_of t (bytes_under input t) Agrees input name line told' o blocks size refl sound passes count says stands bytes staged
+convert_staged None told' Agrees input name line o d blocks size sound own passes count says stands bytes staged = tt
+convert_staged (Some t) told' Agrees input name line o d blocks size sound own passes count says stands bytes staged =
+    staged_of t (bytes_under input t) Agrees input name line told' o d blocks size refl sound own passes count says stands bytes staged
 
 -- ---- what a commit makes of it
 

@@ -6,8 +6,6 @@ use Rattle.bl_commands.specs.declared.command.Command.{Command}
 use Rattle.bl_commands.specs.declared.command.Command.TheVariants.{Convert, Schema}
 use Rattle.bl_commands.specs.Commands.{convert_options}
 use Rattle.bl_commands.specs.Texts.{Text, status_of, fault_line}
-use Rattle.bl_shelf.specs.declared.shelf.ShelfFault.{ShelfFault}
-use Rattle.bl_shelf.specs.declared.shelf.ShelfFault.TheVariants as shelf
 use Rattle.bl_shelf.specs.Told.{Held, Told, abandon_in, commit_in}
 use Rattle.bl_shelf.specs.Causes.{Rose}
 use Rattle.bl_shelf.specs.Written.{Grows, GrowsByPrefix}
@@ -35,12 +33,6 @@ IsChecked first NoMemory = ⊤
 IsChecked first Device = ⊤
 IsChecked first Sink = ⊤
 IsChecked first ending = first ≡ Some ending
-
--- what a fault of a call that reads a file ends a run with, unless memory is wanted
-abbrev pub IsReadingEnding : ShelfFault → List ℕ → Ending → Type 0
-IsReadingEnding shelf.Absent name ending = (ending ≡ Absent name) ⊎ (ending ≡ NoMemory)
-IsReadingEnding shelf.Failed name ending = ending ≡ Device
-IsReadingEnding shelf.NoMemory name ending = ending ≡ NoMemory
 
 -- the file that an ending says isn't held is the input
 abbrev pub NamesInput : List ℕ → Ending → Type 0

@@ -1,24 +1,45 @@
 // Converts a file in its own form.
-ghost use Rattle.std.specs.Prelude.{◌≡◌, None, OnOk, OnErr, IfOk, IfErr, IfSome, IsSome};
+ghost use Rattle.std.specs.Prelude.{◌≡◌, ◌≤◌, [], length, None, OnOk, OnErr, IfOk, IfErr, IfSome, IsSome};
 ghost use Rattle.std.specs.Result.{result_err};
+ghost use Rattle.bl_format.specs.Limits.{most_blocks};
+ghost use Rattle.bl_selection.specs.Selection.{whole_selection};
 ghost use Rattle.bl_shelf.specs.Told.{held_of};
 ghost use Rattle.bl_shelf.specs.Written.{GrowsByPrefix};
+ghost use Rattle.bl_file.specs.Outlines.{IsSound};
+ghost use Rattle.bl_draft.specs.Own.{IsOwnDraft, outlined};
 ghost use Rattle.bl_cli.specs.Outcome.{convert_outcome};
 ghost use Rattle.bl_cli.specs.Accomplished.{IsCommitted};
 ghost use Rattle.bl_cli.specs.Prepared.{IsStaged};
 ghost use Rattle.bl_cli.specs.Run.{IsCaused, IsChecked, IsDone, IsLeft, IsNotUsage, NamesInput, own_text};
 
-use crate::files::{commit, reading_ending};
+use crate::faults::write_ending;
+use crate::files::commit;
 use crate::opened::open_input;
 use bl_commands::Ending;
-use bl_file::{Payload, WholePayload};
+use bl_draft::{Draft, whole_draft};
+use bl_file::{Opened, WholePayload};
+use bl_layout::copy_of;
 use bl_lines::summary_line;
+use bl_num::NoMemory;
 use bl_shelf::{Shelf, Sink};
-use bl_writer::render_own;
+use bl_writer::render;
 use std::alloc::Global;
 
+// The draft of all nodes of a file, under the file's own header and catalogue.
+fn own_draft<P>(alloc: Global, file: &Opened<P>) -> Result<Draft, NoMemory>
+    requires { IsSound file.now.outline }
+    ensures draft { IfOk result (λ draft. draft ≡ whole_selection (outlined file.now.outline [])
+        file.now.outline.header file.now.outline.layout.catalogue) }
+    ensures own { IfOk result (IsOwnDraft file.now.outline) }
+    ensures few { IfOk result (λ draft. length draft.entries ≤ most_blocks) }
+{
+    let outline = &file.outline;
+    let catalogue = copy_of(alloc, outline.layout.catalogue())?;
+    whole_draft(alloc, file, outline.header, catalogue)
+}
+
 // Stages what becomes of the file `input` under a name, and gives the line that tells of it.
-fn stage_conversion<S: Shelf, P: Payload>(
+fn stage_conversion<S: Shelf>(
     alloc: Global,
     input: &str,
     name: &str,
@@ -37,13 +58,17 @@ fn stage_conversion<S: Shelf, P: Payload>(
     ensures spelled { IfErr result IsNotUsage }
     ensures named { IfErr result (NamesInput input.now) }
 {
-    let mut file = match open_input::<S, P>(alloc, input, shelf) {
+    let file = match open_input::<S, WholePayload>(alloc, input, shelf) {
         Ok(file) => file,
         Err(ending) => return Err(ending),
     };
-    let totals = match render_own(alloc, &mut file, shelf, name) {
+    let draft = match own_draft(alloc, &file) {
+        Ok(draft) => draft,
+        Err(_) => return Err(Ending::NoMemory),
+    };
+    let totals = match render(alloc, &draft, &mut [file], shelf, name) {
         Ok(totals) => totals,
-        Err(fault) => return Err(reading_ending(alloc, fault, input)),
+        Err(fault) => return Err(write_ending(alloc, fault, input)),
     };
     match summary_line(alloc, totals.blocks, totals.bytes) {
         Ok(line) => Ok(line),
@@ -88,7 +113,7 @@ pub fn convert<S: Shelf, O: Sink>(
     ensures spelled { IfErr result IsNotUsage }
     ensures named { IfErr result (NamesInput input.now) }
 {
-    match stage_conversion::<S, WholePayload>(alloc, input, name, shelf) {
+    match stage_conversion(alloc, input, name, shelf) {
         Err(ending) => Err(ending),
         Ok(line) => commit(&line, shelf, out),
     }

@@ -1,12 +1,14 @@
 // How faults of files end a run.
 ghost use Rattle.std.specs.Prelude.{◌≡◌, ◌⊎◌};
 ghost use Rattle.bl_cli.specs.Opening.{open_ending};
+ghost use Rattle.bl_cli.specs.Prepared.{IsWriteEnding, IsOutside};
 
 use crate::files::text_of;
 use bl_commands::{Ending, FileFault, Quantity};
 use bl_file::OpenFault;
 use bl_lines::{block_ending, head_ending, layout_ending, sdna_ending};
 use bl_num::Text;
+use bl_writer::WriteFault;
 use std::alloc::Global;
 
 // How a fault of a file ends a run.
@@ -50,5 +52,24 @@ pub fn open_ending(alloc: Global, name: &str, fault: OpenFault) -> Ending
     match text_of(alloc, name) {
         Ok(file) => ending_of(file, fault),
         Err(_) => Ending::NoMemory,
+    }
+}
+
+/// How a fault that came from outside ends a run that writes what it reads of a file.
+pub fn write_ending(alloc: Global, fault: WriteFault, name: &str) -> Ending
+    requires { IsOutside fault }
+    ensures { IsWriteEnding fault name.now result }
+{
+    match fault {
+        WriteFault::Absent => match text_of(alloc, name) {
+            Ok(file) => Ending::Absent { file },
+            Err(_) => Ending::NoMemory,
+        },
+        WriteFault::Device => Ending::Device,
+        WriteFault::NoMemory => Ending::NoMemory,
+        WriteFault::FloatCast { .. } => unreachable!(),
+        WriteFault::TooManyBlocks(_) => unreachable!(),
+        WriteFault::BlockTooLong(_) => unreachable!(),
+        WriteFault::FileTooLarge(_) => unreachable!(),
     }
 }

@@ -2,12 +2,12 @@
 ghost use Rattle.std.specs.Prelude.{◌≡◌, None, option_map, OnOk, IfOk, IfErr, IsSome};
 ghost use Rattle.bl_shelf.specs.Told.{commit_in};
 ghost use Rattle.bl_shelf.specs.Written.{Grows, GrowsByPrefix};
-ghost use Rattle.bl_cli.specs.Run.{IsCaused, ComesFromOutside, IsReadingEnding, IsUncommitted};
+ghost use Rattle.bl_cli.specs.Run.{IsCaused, ComesFromOutside, IsUncommitted};
 
 use crate::printing::put;
 use bl_commands::Ending;
 use bl_num::Text;
-use bl_shelf::{Shelf, ShelfFault, Sink};
+use bl_shelf::{Shelf, Sink};
 use std::alloc::{AllocError, Global};
 
 /// Bytes as an owned text.
@@ -22,20 +22,6 @@ pub fn text_of(alloc: Global, name: &str) -> Result<Text, AllocError>
     ensures { IfOk result (λ text. text ≡ name.now) }
 {
     owned_text(alloc, name.as_bytes())
-}
-
-/// What a fault of a call that reads a file ends a run with.
-pub fn reading_ending(alloc: Global, fault: ShelfFault, name: &str) -> Ending
-    ensures { IsReadingEnding fault name.now result }
-{
-    match fault {
-        ShelfFault::Absent => match text_of(alloc, name) {
-            Ok(file) => Ending::Absent { file },
-            Err(_) => Ending::NoMemory,
-        },
-        ShelfFault::Failed => Ending::Device,
-        ShelfFault::NoMemory => Ending::NoMemory,
-    }
 }
 
 /// Puts the line of what is staged, and commits that; or abandons it.

@@ -3,3 +3,9 @@ pub mod ListLemmas
 pub mod KeptLemmas
 pub mod WholeSelection
 pub mod NodesHaveIndex
+pub mod OwnDrafts
+pub mod OwnNames
+pub mod OwnViews
+pub mod OutlineFacts
+pub mod TargetsMade
+pub mod AllNodes

@@ -1,9 +1,9 @@
 -- Lists by the numbers below n.
-use Rattle.std.proofs.Common.{◌≡◌, ◌<◌, inl, inr, ℕ, zero, suc, ◌+◌, Bool, true, false, cond, List, [], ◌∷◌, ◌++◌, length, get_or, Option, Some, None, refl, sym, ap, ◌∙◌, arith}
+use Rattle.std.proofs.Common.{◌≡◌, ◌<◌, inl, inr, ℕ, zero, suc, ◌+◌, Bool, true, false, cond, List, [], ◌∷◌, ◌++◌, length, get_or, take, Option, Some, None, refl, sym, ap, ◌∙◌, arith}
 use Rattle.std.specs.Prelude.{map, filter, count_by}
 use Rattle.std.specs.Option.{option_or}
 use Rattle.std.proofs.lemmas.Bool.{cases_lt}
-use Rattle.std.proofs.lemmas.List.{get_or-map, map_push, get_or_push, get_or_append_left}
+use Rattle.std.proofs.lemmas.List.{get_or-map, map_more, map_push, get_or_push, get_or_append_left}
 use Rattle.std.proofs.lemmas.List.Elements.{filter-append}
 use Rattle.std.proofs.lemmas.List.Sums.{length-filter}
 use Rattle.bl_format.specs.Words.{numbers_below, last_from, last_place}
@@ -29,6 +29,12 @@ pub map-numbers : {X : Type 0} (f : ℕ → X) (n : ℕ)
 map-numbers f n =
     let next : n + 1 ≡ suc n = omega arith in
     ap (λ m. map f (numbers_below m)) next ∙ map_push f (numbers_below n) n
+
+-- what a function gives for the first elements, with one element more
+pub map-more : {X Y : Type 0} (f : X → Y) (xs : List X) (i : ℕ) (ys : List Y) (y : Y) (d : X) → i < length xs
+    → y ≡ f (get_or xs i d) → ys ≡ map f (take i xs) → ys ++ y ∷ [] ≡ map f (take (i + 1) xs)
+map-more f xs i ys y d lt is so_far =
+    ap (λ zs. zs ++ y ∷ []) so_far ∙ ap (λ z. map f (take i xs) ++ z ∷ []) is ∙ sym (map_more f xs i d lt)
 
 -- tests that agree below n let the same numbers through
 pub filter-same : (p q : ℕ → Bool) (n : ℕ) → ((k : ℕ) → k < n → p k ≡ q k)

@@ -13,7 +13,8 @@ use Rattle.bl_format.specs.Layout.{struct_length}
 use Rattle.bl_format.specs.Nodes.{NodeFault, BadStruct, ShortBlock, node_fault}
 use Rattle.bl_draft.specs.Kept.{HasIndex}
 
-has_index : (c : Catalogue) (x : Head) → node_fault c x ≡ None → HasIndex c x
+-- a node without a fault has such an index
+pub has_index : (c : Catalogue) (x : Head) → node_fault c x ≡ None → HasIndex c x
 has_index c x none =
     go (x.index == 0) (nat_le (length c.structs) x.index) (nat_lt x.len (x.count * struct_length c x.index)) refl refl none
   where

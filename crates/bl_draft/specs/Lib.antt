@@ -1,2 +1,6 @@
 pub mod Names
 pub mod Kept
+pub mod Own
+pub mod Targets
+pub mod Entries
+pub mod Whole

@@ -2,7 +2,8 @@ ghost use Rattle.std.specs.Prelude.{◌≡◌, ◌<◌, ◌||◌, ◌==◌, nat_
 ghost use Rattle.std.specs.List.{list_all};
 ghost use Rattle.bl_format.specs.Schema.{CanBeRead};
 
-use crate::{Draft, Entry, whole_draft};
+use crate::whole::draft_of_nodes;
+use crate::{Draft, Entry};
 use bl_format::{Catalogue, Head, Header, SdnaFault};
 use bl_num::{NoMemory, Order, Width};
 use bl_sdna::parse_catalogue;
@@ -76,7 +77,7 @@ fn draft_by(rt: &HostRuntime, first: u8, last: u8) -> Option<Draft> {
     let catalogue = catalogue_of(rt, first, last).ok()?;
     let nodes = nodes();
     if have_structs(&nodes, from.structs.as_slice().len()) {
-        whole_draft(rt.alloc(), &nodes, &from, HEADER, catalogue).ok()
+        draft_of_nodes(rt.alloc(), &nodes, &from, HEADER, catalogue).ok()
     } else {
         None
     }

@@ -1,17 +1,42 @@
-ghost use Rattle.std.specs.Prelude.{◌≡◌, ◌<◌, ◌^◌, All, IfOk, length, suc};
+ghost use Rattle.std.specs.Prelude.{◌≡◌, ◌<◌, ◌^◌, true, All, [], ◌∷◌, IfOk, length, suc};
 ghost use Rattle.bl_format.specs.Schema.{CanBeRead};
-ghost use Rattle.bl_selection.specs.Selection.{draft_of, whole_selection};
+ghost use Rattle.bl_format.specs.Layout.{HasLayout};
+ghost use Rattle.bl_selection.specs.Drafts.{is_well_formed};
+ghost use Rattle.bl_selection.specs.Selection.{draft_of, is_source, whole_selection};
+ghost use Rattle.bl_file.specs.Outlines.{IsSound};
 ghost use Rattle.bl_draft.specs.Kept.{HasIndex, file_of};
+ghost use Rattle.bl_draft.specs.Own.{outlined};
+ghost use Rattle.bl_draft.specs.Whole.{IsOfAll, all_entries, all_images};
 
 use crate::kept::{entries_by, kept_flags, own_images};
+use bl_file::Opened;
 use bl_format::{Catalogue, Head, Header};
 use bl_num::{Items, NoMemory};
 use bl_selection::{Draft, Entry};
 use std::alloc::Global;
 
+/// The draft of all nodes of an opened file that a catalogue keeps, each as its own image.
+pub fn whole_draft<P>(
+    alloc: Global,
+    opened: &Opened<P>,
+    header: Header,
+    catalogue: Catalogue,
+) -> Result<Draft, NoMemory>
+    requires sound { IsSound opened.now.outline }
+    requires catalogue { HasLayout catalogue header.width }
+    ensures draft { IfOk result (λ draft.
+        draft ≡ whole_selection (outlined opened.now.outline []) header catalogue) }
+    ensures well_formed { IfOk result (λ draft.
+        is_well_formed (outlined opened.now.outline [] ∷ []) draft ≡ true) }
+{
+    let outline = &opened.outline;
+    let nodes = outline.nodes.as_slice();
+    draft_of_nodes(alloc, nodes, outline.layout.catalogue(), header, catalogue)
+}
+
 /// The draft of all nodes of a file that a catalogue keeps, in time that grows with the nodes and
 /// the names of both catalogues.
-pub fn whole_draft(
+pub fn draft_of_nodes(
     alloc: Global,
     nodes: &[Head],
     from: &Catalogue,
@@ -49,4 +74,47 @@ fn draft_of(
         images: Items::from_vec(images),
         overrides: Items::from_vec(Vec::new(alloc)),
     }
+}
+
+/// Whether a draft has all of so many nodes of its only source, in order, each as its own image.
+pub fn is_of_all(draft: &Draft, count: usize) -> bool
+    requires { length draft.now.images ≡ 1 }
+    ensures { result ≡ true → IsOfAll count draft.now }
+{
+    are_all_nodes(draft.entries.as_slice(), count)
+        && are_own_images(draft.images.as_slice()[0].as_slice(), count)
+}
+
+// Whether entries are all of so many nodes of the only source, in order.
+fn are_all_nodes(entries: &[Entry], count: usize) -> bool
+    ensures { result ≡ true → entries.now ≡ all_entries count }
+{
+    for (k, entry) in entries.iter().enumerate() {
+        if !is_node(entry, k) {
+            return false;
+        }
+    }
+    entries.len() == count
+}
+
+// Whether an entry is node k of the only source.
+fn is_node(entry: &Entry, k: usize) -> bool
+    ensures { result ≡ is_source 0 k entry.now }
+{
+    match entry {
+        Entry::Source { file, node } => *file == 0 && *node as usize == k,
+        _ => false,
+    }
+}
+
+// Whether images are those by which each of so many nodes is its own.
+fn are_own_images(images: &[u32], count: usize) -> bool
+    ensures { result ≡ true → images.now ≡ all_images count }
+{
+    for (k, image) in images.iter().enumerate() {
+        if *image as usize != k + 1 {
+            return false;
+        }
+    }
+    images.len() == count
 }

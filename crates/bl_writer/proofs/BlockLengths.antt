@@ -1,7 +1,7 @@
--- How long the blocks of a sound outline are at most.
-use Rattle.std.proofs.Common.{◌≡◌, ◌≤◌, ◌<◌, inl, inr, ℕ, zero, suc, ◌+◌, ◌-◌, ◌*◌, ◌/◌, ◌^◌, Bool, true, false, cond, List, ◌++◌, length, take, Some, None, refl, ap, ◌∙◌, arith}
-use Rattle.std.specs.Prelude.{◌==◌, nat_le, nat_lt, codes, max}
-use Rattle.std.proofs.lemmas.Bool.{ltb-false, cases_lt}
+-- How long the blocks of an output are at most.
+use Rattle.std.proofs.Common.{◌≡◌, ◌≤◌, ◌<◌, inl, inr, ℕ, zero, suc, ◌+◌, ◌-◌, ◌*◌, ◌^◌, List, ◌++◌, length, take, refl, ap, ◌∙◌, arith}
+use Rattle.std.specs.Prelude.{codes, max}
+use Rattle.std.proofs.lemmas.Bool.{cases_lt}
 use Rattle.std.proofs.lemmas.List.{length-append, length-replicate}
 use Rattle.std.proofs.Math.Nat.{le-max_left, le-max_right}
 use Rattle.bl_num.specs.declared.number.Width.{Width}
@@ -10,20 +10,15 @@ use Rattle.bl_num.specs.Numbers.{pointer_bytes, bytes_of}
 use Rattle.bl_num.proofs.BytesOf.{length-bytes_of}
 use Rattle.bl_format.specs.declared.file.Header.{Header}
 use Rattle.bl_format.specs.declared.file.Head.{Head}
-use Rattle.bl_format.specs.declared.raw.RawKind.{RawKind}
-use Rattle.bl_format.specs.declared.raw.RawKind.TheVariants.{Bytes, Numbers, Pointers, Pair}
 use Rattle.bl_format.specs.Words.{zeros}
 use Rattle.bl_format.specs.Blocks.{head_size, code_meant, code_written, head_written}
 use Rattle.bl_format.proofs.StepBack.{code_written_back}
-use Rattle.bl_format.specs.Layout.{struct_length}
-use Rattle.bl_format.specs.Nodes.{NodeFault, BadStruct, ShortBlock, node_fault}
-use Rattle.bl_format.specs.Graph.{raw_length}
 use Rattle.bl_selection.specs.Selection.{no_head}
 use Rattle.bl_selection.specs.Written.{block_written}
-use Rattle.bl_file.specs.declared.outline.Outline.{Outline}
-use Rattle.bl_file.specs.Outlines.{IsSound}
-use Rattle.bl_writer.specs.Blocks.{head_at, kind_at, payload_length, block_length}
-use Rattle.bl_writer.specs.Rendering.{blocks_length, end_written}
+use Rattle.bl_writer.specs.declared.output.Output.{Output}
+use Rattle.bl_writer.specs.Outputs.{IsOutput, output_head, output_kind, written_length, output_length, outputs_length}
+use Rattle.bl_writer.specs.Rendering.{end_written}
+use Rattle.bl_writer.proofs.NodeFacts.{written_length-le}
 
 pub head_size-le : (h : Header) → head_size h ≤ 24
 head_size-le h = by h.width
@@ -39,62 +34,35 @@ head_size-ge h = by h.width
     by Four = omega arith
     by Eight = omega arith
 
-whole_pieces : (len w : ℕ) → len / w * w ≤ len
-whole_pieces len zero = omega arith
-whole_pieces len (suc w) = omega arith
-
-raw_within : (kind : RawKind) (len : ℕ) (w : Width) → raw_length kind len w w ≤ len
-raw_within Bytes len w = omega arith
-raw_within (Numbers n) len w = omega arith
-raw_within Pointers len w = whole_pieces len (pointer_bytes w)
-raw_within Pair len w = omega arith
-
--- the tests of a node that has a struct
-passed : (raw bad short : Bool) (one two : NodeFault) → cond raw None (cond bad (Some one) (cond short (Some two) None)) ≡ None → raw ≡ false → short ≡ false
-passed true bad short one two none is = absurd (cc)
-passed false true short one two none is = absurd (cc)
-passed false false true one two none is = absurd (cc)
-passed false false false one two none is = refl
-
-by_index : (raw : Bool) (n m len : ℕ) → n ≤ len → (raw ≡ false → m ≤ len) → cond raw n m ≤ len
-by_index true n m len le else = le
-by_index false n m len le else = else refl
-
-payload_within : (o : Outline) (kind : RawKind) (x : Head) → node_fault o.layout.catalogue x ≡ None → payload_length o kind x ≤ x.len
-payload_within o kind x none =
-    let c = o.layout.catalogue in
-    by_index (x.index == 0) _ _ x.len (raw_within kind x.len o.header.width)
-    (λ is. ltb-false x.len (x.count * struct_length c x.index) (passed (x.index == 0) (nat_le (length c.structs) x.index) (nat_lt x.len (x.count * struct_length c x.index)) (BadStruct x.at) (ShortBlock x.at) none is))
-
 -- a block is shorter than 4 GiB
-pub block_length-lt : (o : Outline) (k : ℕ) → IsSound o → k < length o.nodes → block_length o k < 2 ^ 32
-block_length-lt o k sound lt =
-    let node = sound.nodes k no_head lt in
-    let own : payload_length o (kind_at o k) (head_at o k) ≤ (head_at o k).len = payload_within o (kind_at o k) (head_at o k) node.no_fault in
+pub output_length-lt : (o : Output) (size k : ℕ) → IsOutput o size → k < length o.nodes.now → output_length o k < 2 ^ 32
+output_length-lt o size k is lt =
+    let node = is.nodes k no_head lt in
+    let own : written_length o (output_kind o k) (output_head o k) ≤ (output_head o k).len = written_length-le o (output_kind o k) (output_head o k) node.no_fault in
     let head : head_size o.header ≤ 24 = head_size-le o.header in
-    let len : (head_at o k).len < 2 ^ 31 = node.len in
+    let len : (output_head o k).len < 2 ^ 31 = node.len in
     omega (arith, own, head, len)
 
 -- so all blocks together are short too
-pub blocks_length-le : (o : Outline) (k : ℕ) → IsSound o → k ≤ length o.nodes → blocks_length o k ≤ k * 2 ^ 32
-unfolding blocks_length
-blocks_length-le o zero sound le = omega arith
-blocks_length-le o (suc k) sound le =
-    let before : blocks_length o k ≤ k * 2 ^ 32 = blocks_length-le o k sound (omega (arith, le)) in
-    let own : block_length o k < 2 ^ 32 = block_length-lt o k sound (omega (arith, le)) in
+pub outputs_length-le : (o : Output) (size k : ℕ) → IsOutput o size → k ≤ length o.nodes.now → outputs_length o k ≤ k * 2 ^ 32
+unfolding outputs_length
+outputs_length-le o size zero is le = omega arith
+outputs_length-le o size (suc k) is le =
+    let before : outputs_length o k ≤ k * 2 ^ 32 = outputs_length-le o size k is (omega (arith, le)) in
+    let own : output_length o k < 2 ^ 32 = output_length-lt o size k is (omega (arith, le)) in
     omega (arith, before, own)
 
-pub blocks_length-more : (o : Outline) (k : ℕ) → blocks_length o (k + 1) ≡ blocks_length o k + block_length o k
-unfolding blocks_length
-blocks_length-more o k = let next : k + 1 ≡ suc k = omega arith in ap (blocks_length o) next
+pub outputs_length-more : (o : Output) (k : ℕ) → outputs_length o (k + 1) ≡ outputs_length o k + output_length o k
+unfolding outputs_length
+outputs_length-more o k = let next : k + 1 ≡ suc k = omega arith in ap (outputs_length o) next
 
 -- the first blocks are no longer than all
-pub blocks_length-mono : (o : Outline) (k n : ℕ) → k ≤ n → blocks_length o k ≤ blocks_length o n
-unfolding blocks_length
-blocks_length-mono o k zero le = let same : k ≡ 0 = omega (arith, le) in rw same (omega arith)
-blocks_length-mono o k (suc n) le = elim (cases_lt n k) [
+pub outputs_length-mono : (o : Output) (k n : ℕ) → k ≤ n → outputs_length o k ≤ outputs_length o n
+unfolding outputs_length
+outputs_length-mono o k zero le = let same : k ≡ 0 = omega (arith, le) in rw same (omega arith)
+outputs_length-mono o k (suc n) le = elim (cases_lt n k) [
   | inl above ↦ (let same : k ≡ suc n = omega (arith, le, above) in rw same (omega arith))
-  | inr below ↦ (let before : blocks_length o k ≤ blocks_length o n = blocks_length-mono o k n (omega (arith, below)) in omega (arith, before))
+  | inr below ↦ (let before : outputs_length o k ≤ outputs_length o n = outputs_length-mono o k n (omega (arith, below)) in omega (arith, before))
 ]
 
 -- ---- what is written
@@ -134,9 +102,9 @@ end_written-is h n is = ap (λ m. take m (codes "ENDB" ++ zeros 20)) is ∙ by h
 
 -- ---- measures
 
-pub blocks_length-none : (o : Outline) → 0 ≡ blocks_length o 0
-unfolding blocks_length
-blocks_length-none o = refl
+pub outputs_length-none : (o : Output) → 0 ≡ outputs_length o 0
+unfolding outputs_length
+outputs_length-none o = refl
 
 -- the most of the first k numbers, and of one more
 pub most_more : (f : ℕ → ℕ) (k own most next : ℕ) → own ≡ f k → next ≡ max own most → ((i : ℕ) → i < k → f i ≤ most) → (i : ℕ) → i < k + 1 → f i ≤ next

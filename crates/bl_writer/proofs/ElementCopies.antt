@@ -1,9 +1,9 @@
 -- The elements of a struct node, copied one behind another.
-use Rattle.std.proofs.Common.{◌≡◌, ℕ, suc, ◌+◌, ◌*◌, All, List, [], ◌∷◌, ◌++◌, length, take, None, refl, sym, ap, ◌∙◌, append_assoc, append-nil, arith}
+use Rattle.std.proofs.Common.{◌≡◌, ℕ, suc, ◌+◌, ◌*◌, ◌<◌, All, List, [], ◌∷◌, ◌++◌, length, take, drop, None, refl, sym, ap, subst, ◌∙◌, append_assoc, append-nil, arith}
 use Rattle.std.specs.Prelude.{map, zip, flat_map}
 use Rattle.std.proofs.lemmas.Grind.{flat_map-append}
 use Rattle.std.proofs.lemmas.List.{take_at, length-append}
-use Rattle.std.proofs.lemmas.List.Elements.{All-nil, All-cons, All-head, All-tail}
+use Rattle.std.proofs.lemmas.List.Elements.{All-nil, All-cons, All-head, All-tail, All-take, All-drop}
 use Rattle.bl_num.specs.declared.number.Order.{Order}
 use Rattle.bl_num.specs.declared.number.Width.{Width}
 use Rattle.bl_format.specs.declared.catalogue.Catalogue.{Catalogue}
@@ -16,6 +16,8 @@ use Rattle.bl_selection.specs.Written.{element_written}
 use Rattle.bl_selection.specs.Fits.{Slot, slots}
 use Rattle.bl_selection.proofs.WrittenBytes.{Fills, length-struct_written}
 use Rattle.bl_selection.proofs.FieldsBack.{field_of, struct_fields-slots}
+use Rattle.bl_writer.specs.declared.plans.Plan.{Plan}
+use Rattle.bl_writer.specs.Plans.{IsPlanOf, planned}
 use Rattle.bl_writer.specs.Payloads.{struct_image, elements_image}
 use Rattle.bl_writer.proofs.LaidOutCopies.{IsThere, slots_there, value_fills}
 
@@ -39,19 +41,22 @@ put_keeps_length front own rest part old dst at len first all cut behind same =
     omega (arith, first, all, cut, behind, same, length-append front (own ++ rest), length-append own rest)
 
 module _ (names : Naming Target) (order : Order) (c : Catalogue) (w : Width) (s : ℕ) where
-  -- one element more
-  pub element_more : (at e len place : ℕ) (read own front rest dst b : List ℕ)
+  -- one element more, copied by the struct's plan
+  pub element_more : (plan : Plan) (at e len place : ℕ) (read own front rest dst b : List ℕ) → IsPlanOf c w s plan → All (λ y. y < 256) b
       → len ≡ struct_length c s → place ≡ at + e * len → length own ≡ len → length front ≡ e * len → front ≡ take (e * len) dst
-      → own ≡ element_written order (struct_length c s) (named_leaves c w s) (fields (struct_cells names order c w s read))
+      → own ≡ planned plan names order read
       → take (e * len) dst ≡ elements_image names order c w s at e b
       → read ≡ part b place (length read) → length read ≡ len
       → take ((e + 1) * len) (front ++ (own ++ rest)) ≡ elements_image names order c w s at (e + 1) b
-  element_more at e len place read own front rest dst b is stands own-long front-long first copied before there long =
+  element_more plan at e len place read own front rest dst b of bytes is stands own-long front-long first copied before there long =
       let until : length front + length own ≡ (e + 1) * len = omega (arith, own-long, front-long) in
       let here : part b place (length read) ≡ part b (at + e * struct_length c s) (struct_length c s) =
       ap (λ (n : ℕ). part b n (length read)) (stands ∙ ap (λ (n : ℕ). at + e * n) is) ∙ ap (part b (at + e * struct_length c s)) (long ∙ is) in
+      let small : All (λ y. y < 256) read =
+      subst (All (λ y. y < 256)) (sym there) (All-take (λ y. y < 256) (length read) (drop place b) (All-drop (λ y. y < 256) place b bytes)) in
       let one : own ≡ struct_image names order c w s at b e =
-      copied ∙ ap (λ (bytes : List ℕ). element_written order (struct_length c s) (named_leaves c w s) (fields (struct_cells names order c w s bytes))) (there ∙ here) in
+      copied ∙ of.copies names order read (long ∙ is) small
+      ∙ ap (λ (bytes : List ℕ). element_written order (struct_length c s) (named_leaves c w s) (fields (struct_cells names order c w s bytes))) (there ∙ here) in
       part_put front own rest ((e + 1) * len) until
       ∙ ap (λ (t : List ℕ). t ++ own) (first ∙ before)
       ∙ ap (λ (t : List ℕ). elements_image names order c w s at e b ++ t) one

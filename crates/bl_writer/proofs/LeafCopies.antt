@@ -10,14 +10,14 @@ use Rattle.bl_format.specs.declared.layout.Leaf.{Leaf}
 use Rattle.bl_format.specs.Words.{part}
 use Rattle.bl_format.specs.Graph.{Target, Naming, value_by}
 use Rattle.bl_selection.specs.Written.{address_of, value_written}
-use Rattle.bl_members.specs.Leaf.{element_place, bytes_of_leaf, number_of_leaf, replaced_at, FitsIn}
+use Rattle.bl_members.specs.Leaf.{element_place, bytes_of_leaf, replaced_at, FitsIn}
 use Rattle.bl_members.proofs.Replaced.{element_inside}
 use Rattle.bl_writer.specs.Image.{is_pointer, IsOfKind, CanBeCopied, element_image, with_element, with_elements}
 use Rattle.bl_writer.proofs.Overlays.{replaced_at-nothing, replaced_at-behind, part-behind, length-part}
 use Rattle.bl_writer.proofs.ValuesKept.{value_kept}
 
 -- an element of a leaf that stands whole in some bytes has all its bytes
-length-bytes_of_leaf : (x : Leaf) (bytes : List ℕ) (k : ℕ)
+pub length-bytes_of_leaf : (x : Leaf) (bytes : List ℕ) (k : ℕ)
     → FitsIn x (length bytes) → k < x.count → length (bytes_of_leaf x bytes k) ≡ x.size
 length-bytes_of_leaf x bytes k fits below =
     length-part bytes (element_place x k) x.size (element_inside x k (length bytes) fits below)
@@ -25,7 +25,7 @@ length-bytes_of_leaf x bytes k fits below =
 -- ---- pointers
 
 -- what is written of a pointer is the address of what it names
-pointer_written : (names : Naming Target) (order : Order) (kind : Kind) (size : ℕ) (bytes : List ℕ)
+pub pointer_written : (names : Naming Target) (order : Order) (kind : Kind) (size : ℕ) (bytes : List ℕ)
     → is_pointer kind ≡ true → length bytes ≡ size
     → value_written order size (value_by kind names order bytes) ≡ bytes_of order size (address_of (names (number_of order size bytes)))
 unfolding is_pointer
@@ -34,20 +34,6 @@ pointer_written names order (kinds.Bits n) size bytes is len = absurd (cc)
 pointer_written names order (kinds.Pointer depth t) size bytes is len =
     ap (λ (n : ℕ). bytes_of order size (address_of (names (number_of order n bytes)))) len
 pointer_written names order kinds.Opaque size bytes is len = absurd (cc)
-
--- one pointer more
-pub with_elements-pointer : (names : Naming Target) (order : Order) (src : List ℕ) (x : Leaf) (k address image : ℕ) (old dst new : List ℕ)
-    → is_pointer x.kind ≡ true → FitsIn x (length src) → k < x.count
-    → address ≡ number_of_leaf order x src k → image ≡ address_of (names address)
-    → dst ≡ with_elements names order src x k old
-    → new ≡ replaced_at (element_place x k) (bytes_of order x.size image) dst
-    → new ≡ with_elements names order src x (suc k) old
-unfolding with_elements
-with_elements-pointer names order src x k address image old dst new pointer fits below read named before is =
-    let own : bytes_of order x.size image ≡ element_image names order src x k =
-    ap (bytes_of order x.size) (named ∙ ap (λ (a : ℕ). address_of (names a)) read)
-    ∙ sym (pointer_written names order x.kind x.size (bytes_of_leaf x src k) pointer (length-bytes_of_leaf x src k fits below)) in
-    is ∙ ap (λ (b : List ℕ). replaced_at (element_place x k) b dst) own ∙ ap (with_element names order src x k) before
 
 -- ---- all others
 

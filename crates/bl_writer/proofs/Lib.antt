@@ -1,14 +1,22 @@
-mod PairKinds
-mod BlockLaw
 mod NodeFacts
 mod ElementCopies
 mod HeldFacts
-mod Targets
 pub mod ValuesKept
 pub mod Overlays
 pub mod LeafCopies
 pub mod LaidOutCopies
 pub mod LayoutLeaves
+pub mod StepLaws
+pub mod PlanLaws
 pub mod Renderings
-pub mod OwnForm
+pub mod OutputForm
 pub mod BlockLengths
+mod DraftForm
+mod FaultLemmas
+pub mod NumberedTexts
+pub mod SelectionKinds
+pub mod PayloadsWritten
+pub mod EntryNames
+pub mod EntrySources
+pub mod EntryBlocks
+pub mod SelectionForm

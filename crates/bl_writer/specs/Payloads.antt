@@ -1,4 +1,4 @@
--- What is written of a node, by the bytes of the file.
+-- What is written of a node, by the bytes of its file.
 use Rattle.std.specs.Prelude.{ℕ, ◌+◌, ◌*◌, Bool, true, false, ◌==◌, if◌then◌else◌, List, flat_map, Some}
 use Rattle.bl_num.specs.declared.number.Order.{Order}
 use Rattle.bl_num.specs.declared.number.Width.{Width}
@@ -12,7 +12,6 @@ use Rattle.bl_format.specs.Blocks.{head_size}
 use Rattle.bl_format.specs.Layout.{named_leaves, struct_length}
 use Rattle.bl_format.specs.Graph.{Target, Naming, fields, struct_cells, contents_by, form_of}
 use Rattle.bl_selection.specs.Written.{element_written, contents_written, address_of}
-use Rattle.bl_file.specs.declared.outline.Outline.{Outline}
 
 -- the place of a node's payload, behind its head
 abbrev pub payload_place : Header → Head → ℕ
@@ -43,15 +42,6 @@ holds_pointers Pair = false
 -- a raw payload as it is written: pointers are carried, and all else stays as it is
 abbrev pub raw_image : Naming Target → Header → RawKind → List ℕ → List ℕ
 raw_image names h kind bytes = if holds_pointers kind then pointers_image names h bytes else bytes
-
--- the payload of a node, by its kind and its head, as it is written
-abbrev pub payload_image : Naming Target → Outline → RawKind → Head → List ℕ → List ℕ
-payload_image names o kind x bytes =
-    let at = payload_place o.header x in
-    let l = o.layout in
-    if x.index == 0
-    then raw_image names o.header kind (part bytes at x.len)
-    else elements_image names o.header.order l.catalogue l.width x.index at x.count bytes
 
 -- the head of node k as it is written, by the head that it had and the length of its payload
 abbrev pub block_head : ℕ → Head → ℕ → Head

@@ -1,14 +1,9 @@
--- How a file is staged as an output: what of a text is staged and what is held back, and the room that is left.
-use Rattle.std.specs.Prelude.{◌≡◌, ℕ, zero, suc, ◌+◌, ◌-◌, ◌<◌, ◌≤◌, List, ◌++◌, length, codes, Option, Some, option_map, IsSomeAnd}
+-- How an output is staged: what of a text is staged and what is held back, and the room that is left.
+use Rattle.std.specs.Prelude.{◌≡◌, ℕ, ◌+◌, ◌-◌, ◌≤◌, List, ◌++◌, length, codes, Option, Some, option_map, IsSomeAnd}
 use Rattle.bl_format.specs.declared.file.Header.{Header}
 use Rattle.bl_format.specs.Words.{zeros}
 use Rattle.bl_format.specs.Blocks.{header_size, head_size}
-use Rattle.bl_format.specs.Graph.{graph}
-use Rattle.bl_selection.specs.Written.{written_form}
-use Rattle.bl_file.specs.declared.outline.Outline.{Outline}
-use Rattle.bl_file.specs.Opening.{file_in}
 use Rattle.bl_shelf.specs.Told.{Told, push_in}
-use Rattle.bl_writer.specs.Blocks.{block_length, scratch_length}
 
 -- ---- what is staged
 
@@ -39,25 +34,8 @@ staged_as name bytes t = record { held = t.held; staged = Some (record { name = 
 abbrev pub end_written : Header → List ℕ
 end_written h = codes "ENDB" ++ zeros (head_size h - 4)
 
--- the file that some bytes read as, written in its own form
-abbrev pub own_form : List ℕ → List ℕ
-own_form b = written_form (file_in b).header (file_in b).catalogue (graph (file_in b))
-
 -- ---- lengths
-
--- the bytes of the first k blocks of an outline
-unfoldable pub blocks_length : Outline → ℕ → ℕ
-blocks_length o zero = 0
-blocks_length o (suc k) = blocks_length o k + block_length o k
 
 -- the bytes of an output, by those of its blocks and of its catalogue
 abbrev pub form_length : Header → ℕ → ℕ → ℕ
 form_length h blocks catalogue = header_size h + blocks + (head_size h + catalogue) + head_size h
-
--- each block of an outline has no more bytes
-abbrev pub BlocksFit : Outline → ℕ → Type 0
-BlocksFit o n = (k : ℕ) → k < length o.nodes → block_length o k ≤ n
-
--- no more bytes are read at once of any node of an outline
-abbrev pub ScratchFits : Outline → ℕ → Type 0
-ScratchFits o n = (k : ℕ) → k < length o.nodes → scratch_length o k ≤ n

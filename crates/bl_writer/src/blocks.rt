@@ -1,18 +1,18 @@
 ghost use Rattle.std.specs.Prelude.{◌≡◌, ◌≢◌, ◌<◌, ◌≤◌, ◌^◌, length, None, OnOk, IsErrOf};
 ghost use Rattle.bl_shelf.specs.Causes.{HasCause};
-ghost use Rattle.bl_format.specs.Limits.{most_blocks};
+ghost use Rattle.bl_format.specs.Limits.{most_output_nodes};
 ghost use Rattle.bl_format.specs.Blocks.{head_size, head_written, code_meant};
 ghost use Rattle.bl_file.specs.Held.{IsHeldAnd};
-ghost use Rattle.bl_file.specs.Opening.{file_in};
-ghost use Rattle.bl_file.specs.Outlines.{IsSound, StandsFor};
-ghost use Rattle.bl_writer.specs.Blocks.{block_of, block_length, scratch_length};
+ghost use Rattle.bl_writer.specs.Outputs.{IsOutput, ArePlans, output_length, output_scratch, block_bytes};
 ghost use Rattle.bl_writer.specs.Payloads.{block_head};
 
-use crate::group_images::{GroupImages, node_address};
-use crate::nodes::head_at;
+use crate::node_images::{NodeImages, node_address};
+use crate::nodes::{head_at, kind_at};
+use crate::output::Output;
 use crate::payloads::write_payload;
+use crate::plans::Plan;
 use bl_blocks::{head_size, write_head};
-use bl_file::{Outline, Payload};
+use bl_file::{Payload, Targets};
 use bl_format::{Head, Header};
 use bl_shelf::{Shelf, ShelfFault};
 
@@ -23,7 +23,7 @@ fn write_node_head(header: &Header, k: u32, head: Head, len: u64, dst: &mut [u8]
     requires index { head.index < 2 ^ 31 }
     requires count { head.count < 2 ^ 31 }
     requires len { len < 2 ^ 31 }
-    requires few { k < most_blocks }
+    requires few { k < most_output_nodes }
     ensures written { dst.new ≡ head_written header.now (block_head k head len) }
     ensures length { length dst.new ≡ length dst.old }
 {
@@ -39,31 +39,34 @@ fn write_node_head(header: &Header, k: u32, head: Head, len: u64, dst: &mut [u8]
     write_head(header, &own, dst);
 }
 
-/// Writes node `k` of an opened file as a block: its head with its new address, and its payload in
-/// which each pointer has the address that its target has in the output.
-pub fn write_block<S: Shelf, P: Payload>(
-    outline: &Outline,
+/// Writes node `k` of an output as a block: its head with its new address, and its payload in which
+/// each pointer has the address that its target has in the output.
+pub fn write_block<S: Shelf, P: Payload, T: Targets>(
+    output: &Output,
+    targets: &T,
+    plans: &[Plan],
     payload: &mut P,
     shelf: &mut S,
     k: u32,
     scratch: &mut [u8],
     dst: &mut [u8],
 ) -> Result<(), ShelfFault>
-    requires sound { IsSound outline.now }
-    requires size { P.file_size payload.old ≡ outline.now.size }
-    requires held { IsHeldAnd (S.told shelf.old) (P.file_name payload.old)
-        (λ b. P.agrees payload.old b × StandsFor b outline.now) }
-    requires k { k < length outline.now.nodes }
-    requires scratch { scratch_length outline.now k ≤ length scratch.old }
-    requires dst { length dst.old ≡ block_length outline.now k }
+    requires output { IsOutput output.now (P.file_size payload.old) }
+    requires targets { T.count targets.now ≡ length output.now.nodes.now }
+    requires plans { ArePlans output.now.layout.now.catalogue output.now.layout.now.width
+        plans.now }
+    requires held { IsHeldAnd (S.told shelf.old) (P.file_name payload.old) (P.agrees payload.old) }
+    requires k { k < length output.now.nodes.now }
+    requires scratch { output_scratch output.now k ≤ length scratch.old }
+    requires dst { length dst.old ≡ output_length output.now k }
     ensures written { OnOk result (IsHeldAnd (S.told shelf.old) (P.file_name payload.old)
-        (λ b. dst.new ≡ block_of (file_in b) k)) }
+        (λ b. dst.new ≡ block_bytes (T.names targets.now k) output.now b k)) }
     ensures length { length dst.new ≡ length dst.old }
     ensures scratch { length scratch.new ≡ length scratch.old }
     ensures name { P.file_name payload.new ≡ P.file_name payload.old }
     ensures size { P.file_size payload.new ≡ P.file_size payload.old }
-    ensures held { IsHeldAnd (S.told shelf.old) (P.file_name payload.old)
-        (λ b. P.agrees payload.new b × StandsFor b outline.now) }
+    ensures agrees { IsHeldAnd (S.told shelf.old) (P.file_name payload.old)
+        (P.agrees payload.new) }
     ensures told { S.told shelf.new ≡ S.told shelf.old }
     ensures room { S.room shelf.new ≡ S.room shelf.old }
     ensures cause { HasCause (S.faults shelf.old) (S.faults shelf.new)
@@ -71,9 +74,12 @@ pub fn write_block<S: Shelf, P: Payload>(
     ensures absent { IsErrOf result ShelfFault.Absent → S.told shelf.old ≡ None }
     ensures no_memory { result ≢ Err ShelfFault.NoMemory }
 {
-    let (own, body) = dst.split_at_mut(head_size(&outline.header));
-    let head = head_at(outline, k);
-    write_node_head(&outline.header, k, head, body.len() as u64, own);
-    let images = GroupImages::new(&outline.table, outline.table.group_of(k));
-    write_payload(outline, k, &images, payload, shelf, scratch, body)
+    let (own, body) = dst.split_at_mut(head_size(&output.header));
+    let head = head_at(output, k);
+    let kind = kind_at(output, k);
+    write_node_head(&output.header, k, head, body.len() as u64, own);
+    let images = NodeImages::new(targets, k);
+    write_payload(
+        output, plans, head, kind, &images, payload, shelf, scratch, body,
+    )
 }

@@ -1,20 +1,25 @@
-//! Opened files, written: their nodes as blocks, and the whole output staged.
+//! Drafts, written: their nodes as blocks, and the whole output staged.
 #![tactic(auto)]
 
 mod blocks;
 mod element;
-mod group_images;
+mod fault;
 mod measure;
+mod node_images;
 mod nodes;
+mod output;
 mod payloads;
 mod pending;
-mod render;
+mod plans;
+mod staging;
 
 pub use bl_ptrarrays::Images;
 pub use blocks::write_block;
 pub use element::copy_element;
-pub use nodes::{block_length, scratch_length};
-pub use render::{Totals, render_own};
+pub use fault::WriteFault;
+pub use output::Output;
+pub use plans::{Plan, plans_of};
+pub use staging::{Totals, render};
 
 #[cfg(test)]
 mod tests;

@@ -1,10 +1,10 @@
-// How long the blocks of an outline are.
-ghost use Rattle.std.specs.Prelude.{◌≡◌, ◌<◌, ◌^◌, length};
-ghost use Rattle.bl_file.specs.Outlines.{IsSound};
-ghost use Rattle.bl_writer.specs.Rendering.{blocks_length, BlocksFit, ScratchFits};
+// How long the blocks of an output are.
+ghost use Rattle.std.specs.Prelude.{◌≡◌, ◌≤◌, ◌^◌, length};
+ghost use Rattle.bl_format.specs.Limits.{most_input_bytes};
+ghost use Rattle.bl_writer.specs.Outputs.{IsOutput, outputs_length, OutputFits, OutputScratchFits};
 
-use crate::nodes::{block_length, scratch_length};
-use bl_file::Outline;
+use crate::nodes::{output_length, output_scratch};
+use crate::output::Output;
 
 /// The bytes of all blocks together, of the longest, and the most that is read of a node at once.
 #[derive(Clone, Copy)]
@@ -14,22 +14,22 @@ pub struct Lengths {
     pub scratch: u64,
 }
 
-/// Measures the blocks of an outline.
-pub fn measure(outline: &Outline) -> Lengths
-    requires { IsSound outline.now }
-    ensures blocks { result.blocks ≡ blocks_length outline.now (length outline.now.nodes) }
-    ensures small { result.blocks < 2 ^ 55 }
-    ensures block { BlocksFit outline.now result.block }
-    ensures scratch { ScratchFits outline.now result.scratch }
+/// Measures the blocks of an output.
+pub fn measure(output: &Output) -> Lengths
+    requires { IsOutput output.now most_input_bytes }
+    ensures blocks { result.blocks ≡ outputs_length output.now (length output.now.nodes.now) }
+    ensures small { result.blocks ≤ 2 ^ 55 }
+    ensures block { OutputFits output.now result.block }
+    ensures scratch { OutputScratchFits output.now result.scratch }
 {
     let mut blocks = 0;
     let mut block = 0;
     let mut scratch = 0;
-    for k in 0..outline.nodes.as_slice().len() as u32 {
-        let len = block_length(outline, k);
+    for k in 0..output.nodes.len() as u32 {
+        let len = output_length(output, k);
         blocks += len;
         block = len.max(block);
-        scratch = scratch_length(outline, k).max(scratch);
+        scratch = output_scratch(output, k).max(scratch);
     }
     Lengths {
         blocks,

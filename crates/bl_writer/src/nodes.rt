@@ -1,30 +1,33 @@
+// The nodes of an output, and how long their blocks are.
 ghost use Rattle.std.specs.Prelude.{◌≡◌, ◌<◌, ◌≤◌, ◌^◌, length};
-ghost use Rattle.bl_file.specs.Outlines.{IsNodeIn, IsSound};
-ghost use Rattle.bl_writer.specs.Blocks.{head_at, kind_at, payload_length, block_length, raw_scratch, scratch_length};
+ghost use Rattle.bl_format.specs.Limits.{most_input_bytes};
+ghost use Rattle.bl_file.specs.Outlines.{IsNodeIn};
+ghost use Rattle.bl_writer.specs.Outputs.{IsOutput, output_head, output_kind, written_length, output_length, raw_scratch, scratch_of, output_scratch};
 ghost use Rattle.bl_writer.specs.Payloads.{payload_place, holds_pointers};
 
+use crate::output::Output;
 use bl_blocks::head_size;
-use bl_file::Outline;
 use bl_format::{Head, RawKind};
 use bl_ptrarrays::raw_length;
 
 /// The head of a node.
-pub(crate) fn head_at(outline: &Outline, k: u32) -> Head
-    requires sound { IsSound outline.now }
-    requires k { k < length outline.now.nodes }
-    ensures head { result ≡ head_at outline.now k }
-    ensures node { IsNodeIn outline.now.header outline.now.layout.catalogue outline.now.size result }
+pub(crate) fn head_at(output: &Output, k: u32) -> Head
+    requires output { IsOutput output.now most_input_bytes }
+    requires k { k < length output.now.nodes.now }
+    ensures head { result ≡ output_head output.now k }
+    ensures node { IsNodeIn output.now.header output.now.layout.now.catalogue most_input_bytes
+        result }
 {
-    outline.nodes.as_slice()[k as usize]
+    output.nodes[k as usize]
 }
 
 /// The kind of a node.
-pub(crate) fn kind_at(outline: &Outline, k: u32) -> RawKind
-    requires sound { IsSound outline.now }
-    requires k { k < length outline.now.nodes }
-    ensures { result ≡ kind_at outline.now k }
+pub(crate) fn kind_at(output: &Output, k: u32) -> RawKind
+    requires output { IsOutput output.now most_input_bytes }
+    requires k { k < length output.now.nodes.now }
+    ensures { result ≡ output_kind output.now k }
 {
-    outline.kinds.as_slice()[k as usize]
+    output.kinds[k as usize]
 }
 
 /// Whether a raw node of a kind holds pointers.
@@ -41,35 +44,35 @@ pub(crate) fn holds_pointers(kind: RawKind) -> bool
 }
 
 /// The place of a node's payload.
-pub(crate) fn payload_place(outline: &Outline, head: Head) -> u64
-    requires { payload_place outline.now.header head < 2 ^ 63 }
-    ensures { result ≡ payload_place outline.now.header head }
+pub(crate) fn payload_place(output: &Output, head: Head) -> u64
+    requires { payload_place output.now.header head < 2 ^ 63 }
+    ensures { result ≡ payload_place output.now.header head }
 {
-    head.at + head_size(&outline.header) as u64
+    head.at + head_size(&output.header) as u64
 }
 
 // The bytes of a node's payload as it is written.
-fn payload_length(outline: &Outline, kind: RawKind, head: Head) -> u64
-    requires { IsNodeIn outline.now.header outline.now.layout.catalogue outline.now.size head }
-    ensures length { result ≡ payload_length outline.now kind head }
+fn written_length(output: &Output, kind: RawKind, head: Head) -> u64
+    requires { IsNodeIn output.now.header output.now.layout.now.catalogue most_input_bytes head }
+    ensures length { result ≡ written_length output.now kind head }
     ensures fits { result ≤ head.len }
 {
     if head.index == 0 {
-        let width = outline.header.width;
+        let width = output.header.width;
         raw_length(kind, head.len, width, width)
     } else {
-        u64::from(head.count) * u64::from(outline.layout.length(head.index))
+        u64::from(head.count) * u64::from(output.layout.length(head.index))
     }
 }
 
 /// The bytes of a node's block.
-pub fn block_length(outline: &Outline, k: u32) -> u64
-    requires sound { IsSound outline.now }
-    requires k { k < length outline.now.nodes }
-    ensures { result ≡ block_length outline.now k }
+pub(crate) fn output_length(output: &Output, k: u32) -> u64
+    requires output { IsOutput output.now most_input_bytes }
+    requires k { k < length output.now.nodes.now }
+    ensures { result ≡ output_length output.now k }
 {
-    let len = payload_length(outline, kind_at(outline, k), head_at(outline, k));
-    head_size(&outline.header) as u64 + len
+    let len = written_length(output, kind_at(output, k), head_at(output, k));
+    head_size(&output.header) as u64 + len
 }
 
 // The bytes of a raw payload that is read before it is carried.
@@ -84,16 +87,23 @@ fn raw_scratch(kind: RawKind, len: u64) -> u64
     }
 }
 
-/// The bytes of what is read of a node at once.
-pub fn scratch_length(outline: &Outline, k: u32) -> u64
-    requires sound { IsSound outline.now }
-    requires k { k < length outline.now.nodes }
-    ensures { result ≡ scratch_length outline.now k }
+// The bytes of what is read of a node at once, by its kind and its head.
+fn scratch_of(output: &Output, kind: RawKind, head: Head) -> u64
+    requires { IsNodeIn output.now.header output.now.layout.now.catalogue most_input_bytes head }
+    ensures { result ≡ scratch_of output.now kind head }
 {
-    let head = head_at(outline, k);
     if head.index == 0 {
-        raw_scratch(kind_at(outline, k), head.len)
+        raw_scratch(kind, head.len)
     } else {
-        u64::from(outline.layout.length(head.index))
+        u64::from(output.layout.length(head.index))
     }
+}
+
+/// The bytes of what is read of a node at once.
+pub(crate) fn output_scratch(output: &Output, k: u32) -> u64
+    requires output { IsOutput output.now most_input_bytes }
+    requires k { k < length output.now.nodes.now }
+    ensures { result ≡ output_scratch output.now k }
+{
+    scratch_of(output, kind_at(output, k), head_at(output, k))
 }

@@ -5,13 +5,16 @@ ghost use Rattle.bl_format.specs.Layout.{HasLayout, struct_length};
 ghost use Rattle.bl_format.specs.Graph.{raw_length};
 ghost use Rattle.bl_format.specs.Words.{part};
 ghost use Rattle.bl_file.specs.Held.{IsHeldAnd};
-ghost use Rattle.bl_file.specs.Outlines.{IsSound};
-ghost use Rattle.bl_writer.specs.Blocks.{head_at, kind_at, payload_length, scratch_length};
-ghost use Rattle.bl_writer.specs.Payloads.{payload_place, elements_image, pointers_image, raw_image, payload_image};
+ghost use Rattle.bl_file.specs.Outlines.{IsNodeIn};
+ghost use Rattle.bl_writer.specs.Outputs.{ArePlans, written_length, scratch_of, payload_bytes};
+ghost use Rattle.bl_writer.specs.Payloads.{payload_place, elements_image, pointers_image, raw_image};
+ghost use Rattle.bl_writer.specs.Plans.{IsPlanOf};
 
 use crate::element::copy_element;
-use crate::nodes::{head_at, holds_pointers, kind_at, payload_place};
-use bl_file::{Outline, Payload};
+use crate::nodes::{holds_pointers, payload_place};
+use crate::output::Output;
+use crate::plans::Plan;
+use bl_file::Payload;
 use bl_format::{Head, RawKind};
 use bl_num::Form;
 use bl_ptrarrays::{Images, carry_raw};
@@ -19,7 +22,8 @@ use bl_shelf::{Shelf, ShelfFault};
 
 // Writes all elements of a struct node. Each is read into `scratch` and copied from there.
 fn write_elements<I: Images, S: Shelf, P: Payload>(
-    outline: &Outline,
+    output: &Output,
+    plan: &Plan,
     head: Head,
     images: &I,
     payload: &mut P,
@@ -27,19 +31,20 @@ fn write_elements<I: Images, S: Shelf, P: Payload>(
     scratch: &mut [u8],
     dst: &mut [u8],
 ) -> Result<(), ShelfFault>
-    requires layout { HasLayout outline.now.layout.catalogue outline.now.layout.width }
-    requires s { head.index < length outline.now.layout.catalogue.structs }
-    requires scratch { length scratch.old ≡ struct_length outline.now.layout.catalogue head.index }
+    requires layout { HasLayout output.now.layout.now.catalogue output.now.layout.now.width }
+    requires plan { IsPlanOf output.now.layout.now.catalogue output.now.layout.now.width head.index
+        plan.now }
+    requires scratch { length scratch.old ≡ struct_length output.now.layout.now.catalogue head.index }
     requires dst { length dst.old
-        ≡ head.count * struct_length outline.now.layout.catalogue head.index }
-    requires inside { payload_place outline.now.header head + length dst.old
+        ≡ head.count * struct_length output.now.layout.now.catalogue head.index }
+    requires inside { payload_place output.now.header head + length dst.old
         ≤ P.file_size payload.old }
     requires small { P.file_size payload.old < 2 ^ 63 }
     requires held { IsHeldAnd (S.told shelf.old) (P.file_name payload.old) (P.agrees payload.old) }
     ensures written { OnOk result (IsHeldAnd (S.told shelf.old) (P.file_name payload.old)
-        (λ b. dst.new ≡ elements_image (I.names images.now) outline.now.header.order
-        outline.now.layout.catalogue outline.now.layout.width head.index
-        (payload_place outline.now.header head) head.count b)) }
+        (λ b. dst.new ≡ elements_image (I.names images.now) output.now.header.order
+        output.now.layout.now.catalogue output.now.layout.now.width head.index
+        (payload_place output.now.header head) head.count b)) }
     ensures length { length dst.new ≡ length dst.old }
     ensures scratch { length scratch.new ≡ length scratch.old }
     ensures name { P.file_name payload.new ≡ P.file_name payload.old }
@@ -57,26 +62,19 @@ fn write_elements<I: Images, S: Shelf, P: Payload>(
     if len == 0 {
         return Ok(());
     }
-    let at = payload_place(outline, head);
+    let at = payload_place(output, head);
     for element in 0..head.count as usize {
         payload.copy_out(shelf, at + (element * len) as u64, scratch)?;
         let (_, rest) = dst.split_at_mut(element * len);
         let (own, _) = rest.split_at_mut(len);
-        copy_element(
-            &outline.layout,
-            head.index,
-            outline.header.order,
-            scratch,
-            images,
-            own,
-        );
+        copy_element(plan, output.header.order, scratch, images, own);
     }
     Ok(())
 }
 
 // Writes the pointers of a raw node, which are read into `scratch`.
 fn write_pointers<I: Images, S: Shelf, P: Payload>(
-    outline: &Outline,
+    output: &Output,
     head: Head,
     images: &I,
     payload: &mut P,
@@ -86,13 +84,13 @@ fn write_pointers<I: Images, S: Shelf, P: Payload>(
 ) -> Result<(), ShelfFault>
     requires scratch { length scratch.old ≡ head.len }
     requires dst { length dst.old
-        ≡ raw_length Pointers head.len outline.now.header.width outline.now.header.width }
-    requires inside { payload_place outline.now.header head + head.len ≤ P.file_size payload.old }
+        ≡ raw_length Pointers head.len output.now.header.width output.now.header.width }
+    requires inside { payload_place output.now.header head + head.len ≤ P.file_size payload.old }
     requires small { P.file_size payload.old < 2 ^ 63 }
     requires held { IsHeldAnd (S.told shelf.old) (P.file_name payload.old) (P.agrees payload.old) }
     ensures written { OnOk result (IsHeldAnd (S.told shelf.old) (P.file_name payload.old)
-        (λ b. dst.new ≡ pointers_image (I.names images.now) outline.now.header
-        (part b (payload_place outline.now.header head) head.len))) }
+        (λ b. dst.new ≡ pointers_image (I.names images.now) output.now.header
+        (part b (payload_place output.now.header head) head.len))) }
     ensures length { length dst.new ≡ length dst.old }
     ensures scratch { length scratch.new ≡ length scratch.old }
     ensures name { P.file_name payload.new ≡ P.file_name payload.old }
@@ -106,11 +104,11 @@ fn write_pointers<I: Images, S: Shelf, P: Payload>(
     ensures absent { IsErrOf result ShelfFault.Absent → S.told shelf.old ≡ None }
     ensures no_memory { result ≢ Err ShelfFault.NoMemory }
 {
-    let at = payload_place(outline, head);
+    let at = payload_place(output, head);
     payload.copy_out(shelf, at, scratch)?;
     let form = Form {
-        width: outline.header.width,
-        order: outline.header.order,
+        width: output.header.width,
+        order: output.header.order,
     };
     carry_raw(RawKind::Pointers, scratch, form, form, images, dst);
     Ok(())
@@ -118,26 +116,25 @@ fn write_pointers<I: Images, S: Shelf, P: Payload>(
 
 // Writes the payload of a raw node: pointers are carried, and all else is copied as it is.
 fn write_raw<I: Images, S: Shelf, P: Payload>(
-    outline: &Outline,
-    k: u32,
+    output: &Output,
+    head: Head,
+    kind: RawKind,
     images: &I,
     payload: &mut P,
     shelf: &mut S,
     scratch: &mut [u8],
     dst: &mut [u8],
 ) -> Result<(), ShelfFault>
-    requires sound { IsSound outline.now }
-    requires k { k < length outline.now.nodes }
-    requires raw { (head_at outline.now k).index ≡ 0 }
-    requires size { P.file_size payload.old ≡ outline.now.size }
+    requires node { IsNodeIn output.now.header output.now.layout.now.catalogue
+        (P.file_size payload.old) head }
+    requires raw { head.index ≡ 0 }
+    requires small { P.file_size payload.old < 2 ^ 63 }
     requires held { IsHeldAnd (S.told shelf.old) (P.file_name payload.old) (P.agrees payload.old) }
-    requires scratch { scratch_length outline.now k ≤ length scratch.old }
-    requires dst { length dst.old
-        ≡ payload_length outline.now (kind_at outline.now k) (head_at outline.now k) }
+    requires scratch { scratch_of output.now kind head ≤ length scratch.old }
+    requires dst { length dst.old ≡ written_length output.now kind head }
     ensures written { OnOk result (IsHeldAnd (S.told shelf.old) (P.file_name payload.old)
-        (λ b. dst.new ≡ raw_image (I.names images.now) outline.now.header (kind_at outline.now k)
-        (part b (payload_place outline.now.header (head_at outline.now k))
-        (head_at outline.now k).len))) }
+        (λ b. dst.new ≡ raw_image (I.names images.now) output.now.header kind
+        (part b (payload_place output.now.header head) head.len))) }
     ensures length { length dst.new ≡ length dst.old }
     ensures scratch { length scratch.new ≡ length scratch.old }
     ensures name { P.file_name payload.new ≡ P.file_name payload.old }
@@ -151,35 +148,37 @@ fn write_raw<I: Images, S: Shelf, P: Payload>(
     ensures absent { IsErrOf result ShelfFault.Absent → S.told shelf.old ≡ None }
     ensures no_memory { result ≢ Err ShelfFault.NoMemory }
 {
-    let head = head_at(outline, k);
-    if holds_pointers(kind_at(outline, k)) {
+    if holds_pointers(kind) {
         let (own, _) = scratch.split_at_mut(head.len as usize);
-        write_pointers(outline, head, images, payload, shelf, own, dst)
+        write_pointers(output, head, images, payload, shelf, own, dst)
     } else {
-        payload.copy_out(shelf, payload_place(outline, head), dst)
+        payload.copy_out(shelf, payload_place(output, head), dst)
     }
 }
 
 /// Writes the payload of a node.
 pub(crate) fn write_payload<I: Images, S: Shelf, P: Payload>(
-    outline: &Outline,
-    k: u32,
+    output: &Output,
+    plans: &[Plan],
+    head: Head,
+    kind: RawKind,
     images: &I,
     payload: &mut P,
     shelf: &mut S,
     scratch: &mut [u8],
     dst: &mut [u8],
 ) -> Result<(), ShelfFault>
-    requires sound { IsSound outline.now }
-    requires k { k < length outline.now.nodes }
-    requires size { P.file_size payload.old ≡ outline.now.size }
+    requires layout { HasLayout output.now.layout.now.catalogue output.now.layout.now.width }
+    requires plans { ArePlans output.now.layout.now.catalogue output.now.layout.now.width
+        plans.now }
+    requires node { IsNodeIn output.now.header output.now.layout.now.catalogue
+        (P.file_size payload.old) head }
+    requires small { P.file_size payload.old < 2 ^ 63 }
     requires held { IsHeldAnd (S.told shelf.old) (P.file_name payload.old) (P.agrees payload.old) }
-    requires scratch { scratch_length outline.now k ≤ length scratch.old }
-    requires dst { length dst.old
-        ≡ payload_length outline.now (kind_at outline.now k) (head_at outline.now k) }
+    requires scratch { scratch_of output.now kind head ≤ length scratch.old }
+    requires dst { length dst.old ≡ written_length output.now kind head }
     ensures written { OnOk result (IsHeldAnd (S.told shelf.old) (P.file_name payload.old)
-        (λ b. dst.new ≡ payload_image (I.names images.now) outline.now (kind_at outline.now k)
-        (head_at outline.now k) b)) }
+        (λ b. dst.new ≡ payload_bytes (I.names images.now) output.now b kind head)) }
     ensures length { length dst.new ≡ length dst.old }
     ensures scratch { length scratch.new ≡ length scratch.old }
     ensures name { P.file_name payload.new ≡ P.file_name payload.old }
@@ -193,10 +192,10 @@ pub(crate) fn write_payload<I: Images, S: Shelf, P: Payload>(
     ensures absent { IsErrOf result ShelfFault.Absent → S.told shelf.old ≡ None }
     ensures no_memory { result ≢ Err ShelfFault.NoMemory }
 {
-    let head = head_at(outline, k);
     if head.index == 0 {
-        return write_raw(outline, k, images, payload, shelf, scratch, dst);
+        return write_raw(output, head, kind, images, payload, shelf, scratch, dst);
     }
-    let (own, _) = scratch.split_at_mut(outline.layout.length(head.index) as usize);
-    write_elements(outline, head, images, payload, shelf, own, dst)
+    let (own, _) = scratch.split_at_mut(output.layout.length(head.index) as usize);
+    let plan = &plans[head.index as usize];
+    write_elements(output, plan, head, images, payload, shelf, own, dst)
 }

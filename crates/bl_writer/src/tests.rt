@@ -1,10 +1,11 @@
 ghost use Rattle.std.specs.Prelude.{◌==◌, if◌then◌else◌, Some, None};
 
-use crate::{Images, copy_element};
+use crate::{Images, copy_element, plans_of};
 use bl_format::LayoutFault;
 use bl_layout::Layout;
 use bl_num::{Order, Width};
 use bl_sdna::parse_catalogue;
+use std::alloc::Global;
 
 // A struct of two pointers, three bytes, a float, and a tail.
 const CATALOGUE: [u8; 92] =
@@ -31,14 +32,31 @@ fn layout_of(rt: &HostRuntime, width: Width) -> Result<Layout, LayoutFault> {
     }
 }
 
-// A copy of an element, where the layout has a struct of this length.
-fn copied(layout: &Layout, order: Order, src: &[u8; STRUCT_LEN]) -> Option<[u8; STRUCT_LEN]> {
+// A copy of an element by its plan, where the layout has a struct of this length.
+fn copied(
+    alloc: Global,
+    layout: &Layout,
+    order: Order,
+    src: &[u8; STRUCT_LEN],
+) -> Option<[u8; STRUCT_LEN]> {
     if layout.struct_count() == 0 || layout.length(0) as usize != STRUCT_LEN {
         return None;
     }
+    let Ok(plans) = plans_of(alloc, layout) else {
+        return None;
+    };
     let mut dst = [b'?'; STRUCT_LEN];
-    copy_element(layout, 0, order, src, &OneName, &mut dst);
+    copy_element(&plans[0], order, src, &OneName, &mut dst);
     Some(dst)
+}
+
+// How many steps the plan of the first struct has.
+fn step_count(alloc: Global, layout: &Layout) -> Option<usize> {
+    let Ok(plans) = plans_of(alloc, layout) else {
+        return None;
+    };
+    let plan = plans.first()?;
+    Some(plan.steps.as_slice().len())
 }
 
 #[test]
@@ -46,6 +64,7 @@ fn copies_eight_byte_pointers(rt: HostRuntime) -> Result<(), LayoutFault> {
     let layout = layout_of(&rt, Width::Eight)?;
     assert_eq!(rt;
         copied(
+            rt.alloc(),
             &layout,
             Order::Little,
             b"\0\x01\0\0\0\0\0\0BA\0\0\0\0\0\0abcwxyz!"
@@ -59,8 +78,20 @@ fn copies_eight_byte_pointers(rt: HostRuntime) -> Result<(), LayoutFault> {
 fn copies_four_byte_pointers(rt: HostRuntime) -> Result<(), LayoutFault> {
     let layout = layout_of(&rt, Width::Four)?;
     assert_eq!(rt;
-        copied(&layout, Order::Big, b"\0\0AB\0\x01\0\0abcwxyz!!!!!!!!!"),
+        copied(
+            rt.alloc(),
+            &layout,
+            Order::Big,
+            b"\0\0AB\0\x01\0\0abcwxyz!!!!!!!!!"
+        ),
         Some(*b"\0\0\0\x20\0\0\0\0abcwxyz\0\0\0\0\0\0\0\0\0")
     );
+    Ok(())
+}
+
+#[test]
+fn joins_neighbours(rt: HostRuntime) -> Result<(), LayoutFault> {
+    let layout = layout_of(&rt, Width::Eight)?;
+    assert_eq!(rt; step_count(rt.alloc(), &layout), Some(2));
     Ok(())
 }

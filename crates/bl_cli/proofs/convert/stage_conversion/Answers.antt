@@ -1,9 +1,4 @@
-use Rattle.std.specs.Prelude.{IfSome, option_map, length}
-use Rattle.bl_shelf.specs.Told.{Told}
-use Rattle.bl_format.specs.Graph.{graph}
-use Rattle.bl_selection.specs.Written.{written_form}
-use Rattle.bl_file.specs.Held.{IsHeldAnd}
-use Rattle.bl_file.specs.Opening.{file_in}
+use Rattle.std.proofs.Common.{arith}
 use Rattle.bl_cli.proofs.Outcomes.{convert_checked, convert_staged, held_abandoned}
 use Rattle.bl_cli.proofs.convert.stage_conversion.Goals as goal
 
@@ -13,15 +8,15 @@ returns-in-Err-clause-checked g c = convert_checked (g.S.Shelf.told c.args.shelf
 pub returns-in-Ok-summary_line-clause-staged : goal.returns-in-Ok-summary_line-clause-staged
 returns-in-Ok-summary_line-clause-staged g c =
     let file = c.in-Ok.file in
-    let totals = c.in-Ok-render_own.totals in
-    convert_staged (g.S.Shelf.told c.args.shelf.now) (g.S.Shelf.told c.render_own.new.shelf) (g.P.Payload.agrees file.payload)
-    c.args.input.now c.args.name.now c.in-Ok-summary_line.line.items file.outline totals.blocks totals.bytes
-    c.in-Ok.ensures.sound c.in-Ok.ensures.passes c.in-Ok-render_own.ensures.blocks c.in-Ok-summary_line.ensures
+    let totals = c.in-Ok-render.totals in
+    convert_staged (g.S.Shelf.told c.args.shelf.now) (g.S.Shelf.told c.render.new.shelf) (λ bytes. _)
+    c.args.input.now c.args.name.now c.in-Ok-summary_line.line.items file.outline c.in-Ok-own_draft.draft totals.blocks totals.bytes
+    c.in-Ok.ensures.sound c.in-Ok-own_draft.ensures.draft c.in-Ok.ensures.passes c.in-Ok-render.ensures.blocks c.in-Ok-summary_line.ensures
     c.in-Ok.ensures.stands
-    (rw (← c.in-Ok.ensures.name, ← c.open_input.ensures.told) c.in-Ok-render_own.ensures.bytes)
-    (rw (← c.in-Ok.ensures.name, ← c.open_input.ensures.told) c.in-Ok-render_own.ensures.staged)
+    (rw (← c.in-Ok.ensures.name, ← c.open_input.ensures.told) (c.in-Ok-render.ensures.bytes 0 file (omega arith)))
+    (rw (← c.in-Ok.ensures.name, ← c.open_input.ensures.told) (c.in-Ok-render.ensures.staged 0 file (omega arith)))
 
 pub returns-clause-held_err : goal.returns-clause-held_err
 returns-clause-held_err g c =
-    held_abandoned (g.S.Shelf.told c.args.shelf.now) (g.S.Shelf.told c.render_own.new.shelf) (g.S.Shelf.told c.abandon.new.self)
-    (rw (← c.open_input.ensures.told) c.in-Ok-render_own.ensures.held_same) c.abandon.ensures.told
+    held_abandoned (g.S.Shelf.told c.args.shelf.now) (g.S.Shelf.told c.render.new.shelf) (g.S.Shelf.told c.abandon.new.self)
+    (rw (← c.open_input.ensures.told) c.in-Ok-render.ensures.held_same) c.abandon.ensures.told

@@ -1,11 +1,10 @@
 use Rattle.std.proofs.Common.{◌≡◌, ◌<◌, ◌≤◌, ℕ}
-use Rattle.bl_writer.specs.Blocks.{block_length, scratch_length}
-use Rattle.bl_writer.specs.Rendering.{blocks_length}
+use Rattle.bl_writer.specs.Outputs.{output_length, outputs_length, output_scratch}
 use Rattle.bl_writer.proofs.measure.measure.Given as goal
 
 abbrev pub invariant-loop-k : goal.invariant-loop-k
 invariant-loop-k l = record {
-  blocks : l.blocks ≡ blocks_length l.outline l.k;
-  block : (i : ℕ) → i < l.k → block_length l.outline i ≤ l.block;
-  scratch : (i : ℕ) → i < l.k → scratch_length l.outline i ≤ l.scratch;
+  blocks : l.blocks ≡ outputs_length l.output l.k;
+  block : (i : ℕ) → i < l.k → output_length l.output i ≤ l.block;
+  scratch : (i : ℕ) → i < l.k → output_scratch l.output i ≤ l.scratch;
 }

@@ -1,4 +1,4 @@
-use Rattle.std.proofs.Common.{◌≡◌, ◌∙◌, sym, ap, arith, length, ℕ, ◌*◌, ◌+◌, take}
+use Rattle.std.proofs.Common.{◌≡◌, ◌∙◌, sym, ap, arith, All, length, ℕ, ◌*◌, ◌+◌, ◌<◌, take}
 use Rattle.bl_format.specs.Words.{part}
 use Rattle.bl_writer.specs.Payloads.{payload_place, elements_image}
 use Rattle.bl_writer.proofs.HeldFacts.{held_both, held_weaker, held_part_same, held_same}
@@ -7,10 +7,10 @@ use Rattle.bl_writer.proofs.payloads.write_elements.Goals as goal
 
 pub returns-then-len-eq0-clause-written : goal.returns-then-len-eq0-clause-written
 returns-then-len-eq0-clause-written g c =
-    let from = c.args.outline.now in
+    let from = c.args.output.now in
     let x = c.args.head in
     held_weaker (g.S.Shelf.told c.args.shelf.now) (g.P.Payload.file_name c.args.payload.now) (g.P.Payload.agrees c.args.payload.now) _ c.requires.held
-    (λ b agrees. elements_empty (g.I.Images.names c.args.images.now) from.header.order from.layout.catalogue from.layout.width x.index
+    (λ b agrees. elements_empty (g.I.Images.names c.args.images.now) from.header.order from.layout.now.catalogue from.layout.now.width x.index
     (payload_place from.header x) x.count c.args.dst.now b c.requires.layout (sym c.requires.scratch ∙ c.if-len-eq0.true) c.requires.dst)
 
 pub loop-element-preserved : goal.loop-element-preserved
@@ -20,7 +20,9 @@ loop-element-preserved g c =
     let told = s.told c.args.shelf.now in
     let name = p.file_name c.args.payload.now in
     let inv = c.loop-element.invariant in
-    let from = c.args.outline.now in
+    let from = c.args.output.now in
+    let layout = from.layout.now in
+    let names = g.I.Images.names c.args.images.now in
     let x = c.args.head in
     let at = payload_place from.header x in
     let e = c.loop-element.element in
@@ -40,10 +42,12 @@ loop-element-preserved g c =
           (e * len) len front behind c.split_at_mut-own.ensures.front_len c.split_at_mut-own.ensures.back_len c.copy_element.ensures.length ∙ inv.6,
       long,
       held_same told (s.told c.loop-element.shelf) name (p.file_name c.loop-element.payload) (p.agrees c.copy_out.new.self) inv.2 inv.0 c.copy_out.ensures.agrees,
-      held_both told name (λ b. take (e * len) c.loop-element.dst ≡ elements_image (g.I.Images.names c.args.images.now) from.header.order from.layout.catalogue from.layout.width x.index at e b)
-          (λ b. c.copy_out.new.dst ≡ part b (c.payload_place-at.result + e * len) (length c.copy_out.new.dst)) _ inv.9
+      held_both told name (λ b. All (λ y. y < 256) b × (take (e * len) c.loop-element.dst ≡ elements_image names from.header.order layout.catalogue layout.width x.index at e b))
+          (λ b. c.copy_out.new.dst ≡ part b (c.payload_place-at.result + e * len) (length c.copy_out.new.dst)) _
+          (held_both told name (p.agrees c.loop-element.payload) (λ b. take (e * len) c.loop-element.dst ≡ elements_image names from.header.order layout.catalogue layout.width x.index at e b) _
+          inv.8 inv.9 (λ b agrees before. (g.met.P.Payload.agreed_bytes c.loop-element.payload b agrees, before)))
           (held_part_same told (s.told c.loop-element.shelf) name (p.file_name c.loop-element.payload) _ c.copy_out.new.dst inv.2 inv.0 c.in_ok-copy_out.ensures.bytes)
-          (λ b before read. element_more (g.I.Images.names c.args.images.now) from.header.order from.layout.catalogue from.layout.width x.index at e len _
-          c.copy_out.new.dst c.copy_element.new.dst c.split_at_mut-rest.result.0.now c.split_at_mut-own.result.1.now c.loop-element.dst b
-          c.requires.scratch place (c.copy_element.ensures.length ∙ c.split_at_mut-own.ensures.front_len) front c.split_at_mut-rest.ensures.front c.copy_element.ensures.copied before read long),
+          (λ b known read. element_more names from.header.order layout.catalogue layout.width x.index c.args.plan.now at e len _
+          c.copy_out.new.dst c.copy_element.new.dst c.split_at_mut-rest.result.0.now c.split_at_mut-own.result.1.now c.loop-element.dst b c.requires.plan known.0
+          c.requires.scratch place (c.copy_element.ensures.length ∙ c.split_at_mut-own.ensures.front_len) front c.split_at_mut-rest.ensures.front c.copy_element.ensures.copied known.1 read long),
     )

@@ -9,7 +9,7 @@ pub returns-clause-written : goal.returns-clause-written
 returns-clause-written g c =
     let told = g.S.Shelf.told c.args.shelf.now in
     let name = g.P.Payload.file_name c.args.payload.now in
-    let h = c.args.outline.now.header in
+    let h = c.args.output.now.header in
     let at = c.payload_place-at.result in
     let read = c.copy_out.new.dst in
     held_weaker told name (λ b. read ≡ part b at (length read)) _ (held_part told name at read c.in_ok-copy_out.ensures.bytes)

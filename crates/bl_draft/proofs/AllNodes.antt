@@ -1,0 +1,142 @@
+-- Drafts of all nodes of a file: the test for them, and that their kinds are those of the file.
+use Rattle.std.proofs.Common.{◌≡◌, ◌<◌, ℕ, ◌+◌, true, List, [], ◌∷◌, ◌++◌, length, get_or, take, refl, sym, ap, subst, ◌∙◌, arith}
+use Rattle.std.specs.Prelude.{◌==◌, map}
+use Rattle.std.proofs.lemmas.Bool.{eqb-true, and_parts}
+use Rattle.std.proofs.lemmas.List.{ext_get_or, get_or-map, length-map, take_more, take_all}
+use Rattle.bl_format.specs.declared.file.Head.{Head}
+use Rattle.bl_format.specs.declared.raw.RawKind.{RawKind}
+use Rattle.bl_format.specs.Words.{numbers_below}
+use Rattle.bl_format.specs.Nodes.{File, group_of}
+use Rattle.bl_format.specs.Graph.{file_codes, file_names, file_views, node_cells}
+use Rattle.bl_selection.specs.declared.draft.Draft.{Draft}
+use Rattle.bl_selection.specs.declared.draft.Entry.{Entry}
+use Rattle.bl_selection.specs.declared.draft.Entry.TheVariants as entries
+use Rattle.bl_selection.specs.Selection.{no_head, entry_names, is_source}
+use Rattle.bl_selection.proofs.EntriesAsNodes.{length-numbers_below}
+use Rattle.bl_selection.proofs.OwnFormNames.{HaveOwnIndex, own_selection, length-entries, entry_at-own, names-own}
+use Rattle.bl_file.specs.declared.outline.Outline.{Outline}
+use Rattle.bl_file.specs.Opening.{kinds_in}
+use Rattle.bl_file.specs.Outlines.{ArePairsLong, IsSound, StandsFor}
+use Rattle.bl_file.specs.Seen.{Namings, kinds_seen, views_seen}
+use Rattle.bl_draft.specs.Own.{IsOwnDraft, entry_head, entry_heads, entry_kinds, entry_node, outlined, own_names}
+use Rattle.bl_draft.specs.Whole.{IsOfAll, all_entries}
+use Rattle.bl_draft.proofs.ListLemmas.{get_or-by, map-numbers}
+use Rattle.bl_draft.proofs.OutlineFacts.{sound-HaveOwnIndex, sound-plain}
+use Rattle.bl_draft.proofs.OwnDrafts.{IsDraftOf-own}
+use Rattle.bl_draft.proofs.OwnViews.{selection_views-own}
+
+-- ---- the test
+
+-- an entry that passes is that node
+pub is_source-node : (k : ℕ) (x : Entry) → is_source 0 k x ≡ true → x ≡ entries.Source 0 k
+is_source-node k (entries.Source i n) is =
+    let parts = and_parts (0 == i) (k == n) is in
+    let file : 0 ≡ i = eqb-true 0 i parts.0 in
+    let node : k ≡ n = eqb-true k n parts.1 in
+    λ j. entries.Source (sym file j) (sym node j)
+is_source-node k (entries.Made m) is = absurd (cc)
+is_source-node k (entries.Raw code bytes) is = absurd (cc)
+
+-- one element more is what a function gives for its number
+pub more-by : {X : Type 0} (f : ℕ → X) (xs : List X) (k : ℕ) (d : X) → k < length xs → get_or xs k d ≡ f k
+    → take k xs ≡ map f (numbers_below k) → take (k + 1) xs ≡ map f (numbers_below (k + 1))
+more-by f xs k d lt is so_far =
+    take_more xs k d lt ∙ ap (λ ys. ys ++ get_or xs k d ∷ []) so_far
+    ∙ ap (λ y. map f (numbers_below k) ++ y ∷ []) is ∙ sym (map-numbers f k)
+
+-- at the end all are
+pub all-by : {X : Type 0} (f : ℕ → X) (xs : List X) (k n : ℕ) → k ≡ length xs → k ≡ n
+    → take k xs ≡ map f (numbers_below k) → xs ≡ map f (numbers_below n)
+all-by f xs k n all is so_far =
+    sym (take_all k xs (omega (arith, all))) ∙ so_far ∙ ap (λ m. map f (numbers_below m)) is
+
+-- ---- the draft
+
+-- a draft of all nodes of a file under the file's header and catalogue
+pub of_all-own : (o : Outline) (b : List ℕ) (d : Draft) → IsOwnDraft o d → IsOfAll (length o.nodes) d
+    → d ≡ own_selection (outlined o b)
+of_all-own o b d own all = λ i. record {
+  header = own.header i;
+  catalogue = own.catalogue i;
+  entries = all.0 i;
+  images = all.1 i;
+  overrides = own.no_overrides i;
+}
+
+-- its heads are the nodes
+heads-all : (nodes : List Head) → entry_heads nodes (all_entries (length nodes)) ≡ nodes
+heads-all nodes =
+    let n = length nodes in
+    let long : length (all_entries n) ≡ n = length-map (numbers_below n) (entries.Source 0) ∙ length-numbers_below n in
+    let many : length (entry_heads nodes (all_entries n)) ≡ n = length-map (all_entries n) (entry_head nodes) ∙ long in
+    ext_get_or no_head (entry_heads nodes (all_entries n)) nodes many
+    (λ k below.
+    let lt : k < n = omega (arith, below, many) in
+    get_or-map (entry_head nodes) (all_entries n) k (entries.Raw [] []) no_head (omega (arith, lt, long))
+    ∙ ap (entry_head nodes) (get_or-by (entries.Source 0) n k (entries.Raw [] []) lt))
+
+-- what addresses name from the nodes of a file
+abbrev names_in : File → Namings
+names_in f k = file_names f (group_of (file_codes f) k)
+
+-- what the nodes say by these names is what the file says
+views-all : (f : File) → views_seen (names_in f) f.header f.catalogue f.nodes f.bytes ≡ file_views f
+unfolding views_seen file_views node_cells
+views-all f = refl
+
+kinds-all : (f : File) → kinds_seen f.nodes (file_views f) ≡ kinds_in f
+unfolding kinds_seen kinds_in
+kinds-all f = refl
+
+own_names-all : (f : File) → HaveOwnIndex f → (e : ℕ) → e < length f.nodes → names_in f e ≡ own_names f (own_selection f) e
+own_names-all f index e lt =
+    sym (ap (λ x. entry_names (f ∷ []) (own_selection f) e 0 (entry_node x)) (entry_at-own f index e lt)
+    ∙ names-own f index e)
+
+-- the kinds of its entries are those of the file
+pub entry_kinds-all : (o : Outline) (b : List ℕ) (d : Draft) → IsSound o → IsOwnDraft o d → IsOfAll (length o.nodes) d
+    → entry_kinds (outlined o b) d ≡ kinds_in (outlined o b)
+entry_kinds-all o b d sound own all =
+    let f = outlined o b in
+    let s = own_selection f in
+    let is : d ≡ s = of_all-own o b d own all in
+    let own_s : IsOwnDraft o s = subst (IsOwnDraft o) is own in
+    let index = sound-HaveOwnIndex o b sound in
+    ap (entry_kinds f) is
+    ∙ ap (kinds_seen (entry_heads f.nodes s.entries))
+    (sym (selection_views-own f s (IsDraftOf-own o s own_s) (sound-plain o b s sound own_s) (names_in f)
+    (λ e lt. own_names-all f index e (omega (arith, lt, length-entries f index)))))
+    ∙ ap (λ hs. kinds_seen hs (views_seen (names_in f) f.header f.catalogue hs f.bytes)) (heads-all f.nodes)
+    ∙ ap (kinds_seen f.nodes) (views-all f) ∙ kinds-all f
+
+-- so are those that an outline has
+pub kinds-known : (o : Outline) (b : List ℕ) (d : Draft) (kinds : List RawKind) → IsSound o → IsOwnDraft o d
+    → IsOfAll (length o.nodes) d → kinds ≡ o.kinds → StandsFor b o → kinds ≡ entry_kinds (outlined o b) d
+kinds-known o b d kinds sound own all same stands =
+    same ∙ stands.kinds ∙ ap kinds_in stands.file ∙ sym (entry_kinds-all o b d sound own all)
+
+-- the heads of its entries are the nodes
+heads-known : (o : Outline) (d : Draft) (heads : List Head) → IsOfAll (length o.nodes) d
+    → heads ≡ entry_heads o.nodes d.entries → heads ≡ o.nodes
+heads-known o d heads all is = is ∙ ap (entry_heads o.nodes) all.0 ∙ heads-all o.nodes
+
+-- there are as many kinds as entries
+pub length-known : (o : Outline) (d : Draft) (kinds : List RawKind) → IsSound o → IsOfAll (length o.nodes) d
+    → kinds ≡ o.kinds → length kinds ≡ length d.entries
+length-known o d kinds sound all same =
+    let n = length o.nodes in
+    let long : length (all_entries n) ≡ n = length-map (numbers_below n) (entries.Source 0) ∙ length-numbers_below n in
+    ap (λ (ks : List RawKind). length ks) same ∙ sound.kinds ∙ sym long
+    ∙ sym (ap (λ (es : List Entry). length es) all.0)
+
+-- and pairs are long
+pub pairs-known : (o : Outline) (d : Draft) (heads : List Head) (kinds : List RawKind) → IsSound o
+    → IsOfAll (length o.nodes) d → heads ≡ entry_heads o.nodes d.entries → kinds ≡ o.kinds → ArePairsLong heads kinds
+pairs-known o d heads kinds sound all is same =
+    subst (λ (hs : List Head). ArePairsLong hs kinds) (sym (heads-known o d heads all is))
+    (subst (λ (ks : List RawKind). ArePairsLong o.nodes ks) (sym same) sound.pairs)
+
+-- so many nodes are those of the outline
+pub of_all-nodes : (o : Outline) (d : Draft) (nodes : List Head) → nodes ≡ o.nodes → IsOfAll (length nodes) d
+    → IsOfAll (length o.nodes) d
+of_all-nodes o d nodes same all = subst (λ (xs : List Head). IsOfAll (length xs) d) same all
