@@ -8,6 +8,7 @@ use Rattle.bl_format.specs.Words.{last_place}
 use Rattle.bl_addresses.specs.declared.marks.Mark.{Mark}
 use Rattle.bl_addresses.specs.declared.marks.Scope.TheVariants.{Group, File}
 use Rattle.bl_addresses.specs.Marks.{mark_of, is_found}
+use Rattle.bl_addresses.specs.Marks as own
 use Rattle.bl_addresses.proofs.LastPlace.{last_place-map}
 
 -- a number other than 0 fails the test for it
@@ -54,3 +55,12 @@ pub target_in_file : (marks : List Mark) (seen : List nodes.Mark) (group address
 target_in_file marks seen group address r view other none found =
     found ∙ ap (λ o. option_or o (found_in_file marks address)) none
     ∙ sym (target_found marks group address other) ∙ ap (λ ms. target_of ms group address) view
+
+-- what is found in the group is the target among its nodes alone
+pub target_among : (marks : List Mark) (seen : List nodes.Mark) (group address : ℕ) (r : Option ℕ)
+    → map mark_of marks ≡ seen → (address ≡ 0 → ⊥)
+    → r ≡ found_in_group marks group address → r ≡ own.target_in_group seen group address
+unfolding own.target_in_group
+target_among marks seen group address r view other found =
+    found ∙ sym (last_place-map (λ (n : nodes.Mark). n.group == group && n.address == address) mark_of marks)
+    ∙ rw (not_zero address other) (ap (λ ms. last_place (λ (n : nodes.Mark). n.group == group && n.address == address) ms) view)

@@ -1,6 +1,7 @@
 -- What addresses are compared with in nodes.
-use Rattle.std.specs.Prelude.{ℕ, Bool, true, false, ◌==◌, ◌&&◌, ◌||◌, nat_lt, nat_le, List, [], ◌∷◌, slice_index_or}
+use Rattle.std.specs.Prelude.{ℕ, Bool, true, false, ◌==◌, ◌&&◌, ◌||◌, nat_lt, nat_le, if◌then◌else◌, List, [], ◌∷◌, slice_index_or, Option, None}
 use Rattle.bl_format.specs.Nodes as nodes
+use Rattle.bl_format.specs.Words.{last_place}
 use Rattle.bl_addresses.specs.declared.marks.Mark.{Mark}
 use Rattle.bl_addresses.specs.declared.marks.Place.{Place}
 use Rattle.bl_addresses.specs.declared.marks.Row.{Row}
@@ -12,6 +13,12 @@ unfoldable pub marks_by : List ℕ → List ℕ → List Bool → List nodes.Mar
 marks_by (group ∷ groups) (address ∷ addresses) (is_an_id ∷ ids) =
     record { group = group; address = address; is_an_id = is_an_id } ∷ marks_by groups addresses ids
 marks_by _ _ _ = []
+
+-- the node that an address names among those of a group alone, or null: 0 is null, else it is the last node of the group
+-- with that address
+unfoldable pub target_in_group : List nodes.Mark → ℕ → ℕ → Option ℕ
+target_in_group marks group address =
+    if address == 0 then None else last_place (λ n. n.group == group && n.address == address) marks
 
 -- a mark as contracts see it
 abbrev pub mark_of : Mark → nodes.Mark

@@ -1,6 +1,6 @@
 ghost use Rattle.std.specs.Prelude.{◌≡◌, ◌<◌, ◌^◌, IfOk, length, slice_get, option_map, Some};
 ghost use Rattle.bl_format.specs.Nodes.{target_of};
-ghost use Rattle.bl_addresses.specs.Marks.{marks_by};
+ghost use Rattle.bl_addresses.specs.Marks.{marks_by, target_in_group};
 
 use crate::marks::{Mark, Place, Row, Scope, marks_by};
 use crate::order::order_of;
@@ -97,6 +97,22 @@ impl Table {
                 self.buckets.span_of(address, self.ids.len()),
                 Place { part: 0, address },
             ),
+        }
+    }
+
+    /// The node of a group that an address names, where IDs of other groups aren't looked at.
+    #[tactic(auto, unfolding(crate::specs::Marks::target_in_group))]
+    pub fn resolve_in_group(&self, group: u32, address: u64) -> Option<u32>
+        ensures { result ≡ target_in_group self.now group address }
+    {
+        if address != 0 {
+            let place = Place {
+                part: group,
+                address,
+            };
+            last_at(&self.nodes, self.span_of(group), place)
+        } else {
+            None
         }
     }
 
