@@ -1,21 +1,40 @@
 -- Which rows a scope has, and how they are sorted.
-use Rattle.std.proofs.Common.{◌<◌, ◌≤◌, inl, inr, ℕ, ◌∙◌, List, length, get_or, arith}
-use Rattle.std.specs.Prelude.{All, Contains}
+use Rattle.std.proofs.Common.{◌≡◌, ◌<◌, ◌≤◌, inl, inr, ℕ, ◌∙◌, Bool, true, false, List, length, get_or, refl, arith}
+use Rattle.std.specs.Prelude.{All, Contains, not}
 use Rattle.std.specs.Ordering.{is_lt}
-use Rattle.std.specs.List.Sorted.{IsPartitionedBy}
-use Rattle.std.proofs.lemmas.List.Sorted.{sorted_far, ranks_by}
+use Rattle.std.specs.List.{IsAllAdjacentAnswer}
+use Rattle.std.specs.List.Sorted.{IsPartitionedBy, IsPermutation}
+use Rattle.std.proofs.lemmas.List.Sorted.{sorted_far, ranks_by, All-permutation, Contains-permutation}
 use Rattle.bl_addresses.specs.declared.marks.Mark.{Mark}
 use Rattle.bl_addresses.specs.declared.marks.Place.{Place}
 use Rattle.bl_addresses.specs.declared.marks.Row.{Row}
 use Rattle.bl_addresses.specs.declared.marks.Scope.{Scope}
 use Rattle.bl_addresses.specs.Marks.{mark_at, is_up_to, place_of, row_of}
-use Rattle.bl_addresses.specs.Order.{IsMember, IsRow, AreSorted, key, key_cmp}
+use Rattle.bl_addresses.specs.Order.{IsMember, IsRow, AreMembers, AreSorted, key, key_cmp}
 use Rattle.bl_addresses.proofs.PlaceLemmas.{key_total, IsNoLater, no_later, IsUpTo, up_to_means, up_to_from}
 
 -- the rows are those of the nodes below k that are looked up in the scope
 pub record HasMembersBelow (scope : Scope) (marks : List Mark) (k : ℕ) (rows : List Row) : Type 0 where
   pub inside : All (IsRow scope marks) rows
   pub whole : (n : ℕ) → n < k → IsMember scope marks n → Contains rows (row_of scope (mark_at marks n) n)
+
+-- rows in another order are those of the same nodes
+pub members_moved : (scope : Scope) (marks : List Mark) (rows moved : List Row) → IsPermutation rows moved
+    → AreMembers scope marks rows → AreMembers scope marks moved
+members_moved scope marks rows moved perm members = record {
+  inside = All-permutation (IsRow scope marks) rows moved perm members.inside;
+  whole = λ n m. Contains-permutation _ _ _ perm (members.whole n m);
+}
+
+not_true : (b : Bool) → true ≡ not b → b ≡ false
+not_true true e = absurd (cc)
+not_true false e = refl
+
+-- rows of which each two side by side are found in order are sorted
+pub sorted_by_answers : (rows : List Row) (r : Bool) → r ≡ true
+    → IsAllAdjacentAnswer (λ (x y : Row) b. b ≡ not (is_lt (key_cmp (key y) (key x)))) rows r → AreSorted rows
+sorted_by_answers rows true is answers = λ k d low lt. not_true _ (answers k d lt)
+sorted_by_answers rows false is answers = absurd (cc)
 
 -- of two rows in order the first is no later
 pub in_order : (rows : List Row) → AreSorted rows → (i j : ℕ) (d : Row) → i ≤ j → j < length rows

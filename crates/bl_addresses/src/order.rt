@@ -1,5 +1,6 @@
-ghost use Rattle.std.specs.Prelude.{◌≡◌, ◌<◌, ◌^◌, IfOk, List, length};
-ghost use Rattle.bl_addresses.specs.Order.{AreMembers, IsOrder, key};
+ghost use Rattle.std.specs.Prelude.{◌≡◌, ◌≤◌, ◌<◌, ◌^◌, true, IfOk, List, length, IsPermutation};
+ghost use Rattle.std.specs.Ordering.{is_lt};
+ghost use Rattle.bl_addresses.specs.Order.{AreMembers, AreSorted, IsOrder, key, key_cmp};
 
 use crate::marks::{Mark, Row, Scope, is_member, row_of};
 use bl_num::NoMemory;
@@ -35,11 +36,61 @@ fn count(scope: Scope, marks: &[Mark]) -> usize {
     marks.iter().filter(|mark| is_member(scope, **mark)).count()
 }
 
-// Sorts the rows of a scope, without memory.
+// Sorts the rows of a scope, without memory. Rows of one part most often stand side by side already.
 fn sort(rows: &mut [Row])
     ensures len { length rows.new ≡ length rows.old }
     ensures order { (scope : Scope) (marks : List Mark) → AreMembers scope marks rows.old →
         IsOrder scope marks rows.new }
+{
+    sort_parts(rows);
+    if !are_sorted(rows) {
+        sort_all(rows);
+    }
+}
+
+// Sorts the rows of each part that stand side by side.
+fn sort_parts(rows: &mut [Row])
+    ensures len { length rows.new ≡ length rows.old }
+    ensures moved { IsPermutation rows.old rows.new }
+{
+    let mut from = 0;
+    while from < rows.len() {
+        let (_, rest) = rows.split_at_mut(from);
+        let (own, _) = rest.split_at_mut(part_length(rest));
+        own.sort_unstable_by_key(|row| (row.address, row.node));
+        from += own.len();
+    }
+}
+
+// How many rows from the first one on have its part.
+fn part_length(rows: &[Row]) -> usize
+    requires { 0 < length rows.now }
+    ensures some { 0 < result }
+    ensures inside { result ≤ length rows.now }
+{
+    let part = rows[0].part;
+    1 + rows[1..].iter().take_while(|row| row.part == part).count()
+}
+
+// Whether no row comes before the one that stands before it.
+fn are_sorted(rows: &[Row]) -> bool
+    ensures { result ≡ true → AreSorted rows.now }
+{
+    rows.is_sorted_by(|first, second| !comes_before(*second, *first))
+}
+
+// Whether a row comes before another.
+fn comes_before(row: Row, other: Row) -> bool
+    ensures { result ≡ is_lt (key_cmp (key row) (key other)) }
+{
+    key(row).cmp(&key(other)).is_lt()
+}
+
+// Sorts rows of any parts in any order.
+fn sort_all(rows: &mut [Row])
+    ensures len { length rows.new ≡ length rows.old }
+    ensures moved { IsPermutation rows.old rows.new }
+    ensures sorted { AreSorted rows.new }
 {
     rows.sort_unstable_by_key(|row| key(*row));
 }
