@@ -1,11 +1,12 @@
 #!/usr/bin/env python3
 """Times `calumevio convert` beside `cp` on files of struct blocks, and checks what it writes.
 
-Three files are made over the small catalogue. The first has many groups: objects and meshes with data of
-their own, whose pointers name blocks of their group, IDs of others, or nothing. The second has a group with
-very many pointers to few raw blocks, from structs and from arrays of pointers. The third has one group of
-very many blocks, of which half stood at one address. The last two are made a second time, twice as large,
-to show how the time grows.
+Four files are made over the small catalogue. The first has objects that name each other, each with a mesh that
+has an array. The second has many groups: objects and meshes with data of their own, whose pointers name blocks
+of their group, IDs of others, or nothing, as they are drawn. The third has a group with very many pointers to few
+raw blocks, from structs and from arrays of pointers. The fourth has one group of very many blocks, of which half
+stood at one address. The last two are made a second time, twice as large, to show how the time grows. A fifth
+file is made of one that Blender saved, where such a sample is given: its blocks, so many times over.
 
 Both programs read a file from the page cache and write a new one in the same folder, by turns. Of each file
 it prints the blocks, the bytes, the median seconds of both, their ratio, the peak memory of `convert`, and
@@ -28,6 +29,7 @@ import tempfile
 import catalogue
 import convert
 import converted
+import repeated
 
 # Structs of the catalogue, and what stands in them: pointers, and numbers of other bytes. `Link` has number 0,
 # which no struct block can have.
@@ -145,6 +147,17 @@ class Maker:
                 self.block(b"DATA", own[0], 0, 1, array),
                 self.block(b"DATA", own[1], MESH, 2, b"".join(meshes))]
 
+    def objects(self, count):
+        """Objects, half as many as structs are wanted, each of which names one before it and has a mesh with
+        an array of its own."""
+        for number in range(count // 2):
+            at = [16 * (3 * number + k + 1) for k in range(3)]
+            parent = 16 * (3 * self.draw.randrange(number) + 1) if number else 0
+            array = self.draw.randbytes(4 * self.draw.randint(1, 4))
+            yield self.block(b"OB", at[0], OBJECT, 1, self.element(OBJECT, [0, 0, 0, 0, parent, at[1]]))
+            yield self.block(b"ME", at[1], MESH, 1, self.element(MESH, [0, 0, 0, 0, at[2], 0, 0, 0]))
+            yield self.block(b"DATA", at[2], 0, 1, array)
+
     def groups(self, count):
         """Blocks of groups, up to so many struct blocks or a few more."""
         sorts = ((self.of_object, 4), (self.of_mesh, 3), (self.of_library, 2), (self.of_raw, 1))
@@ -197,13 +210,13 @@ def write(path, name, count):
         file.write(catalogue.end())
 
 
-def write_apart(path, name, count):
-    """As `write`, in a process of its own: what a run's peak memory is counted from stays small."""
-    maker = multiprocessing.Process(target=write, args=(path, name, count))
+def write_apart(make, path, *words):
+    """Makes a file in a process of its own: what a run's peak memory is counted from stays small."""
+    maker = multiprocessing.Process(target=make, args=(path, *words))
     maker.start()
     maker.join()
     if maker.exitcode != 0:
-        sys.exit(f"{name} wasn't made")
+        sys.exit(f"{path} wasn't made")
 
 
 def small_faults(folder, program, name):
@@ -244,7 +257,10 @@ def measure(folder, program, rounds):
 
 def attempt(folder, given, name, count):
     """What was measured of `convert` on a file, after a line that tells of it."""
-    write_apart(folder / "input", name, count)
+    if name == "repeated":
+        write_apart(repeated.write, folder / "input", given.sample.read_bytes(), count)
+    else:
+        write_apart(write, folder / "input", name, count)
     convert.digest(folder / "input")
     copied, done, peak, answers = measure(folder, given.program, given.rounds)
     wrong = list(large_faults(folder, given.program, answers)) if answers[0][0] == 0 else [f"{set(answers)}"]
@@ -260,7 +276,7 @@ def attempt(folder, given, name, count):
 def bench(folder, given):
     """Whether all is right, after the lines of all files."""
     rights = []
-    for name in ("groups", "slots", "one_group"):
+    for name in ("objects", "groups", "slots", "one_group"):
         wrong = list(small_faults(folder, given.program, name))
         rights.append(not wrong)
         print(f"{name}, a small file: {'; '.join(wrong) or 'the output of converted.py'}")
@@ -269,11 +285,12 @@ def bench(folder, given):
           f" convert's seconds have {alone:.3f} in which the program starts")
     print(f"{'file':10} {'of':>9} {'blocks':>9} {'bytes':>12} {'cp s':>7} {'convert s':>9} {'ratio':>6}"
           f" {'peak KiB':>10} {'beside KiB':>10}")
-    groups = attempt(folder, given, "groups", given.blocks)
-    if groups.right:
-        print(f"groups: the ratio is {groups.ratio:.2f} (wanted: at most {WANTED_RATIO}); beside file and output"
-              f" {groups.memory_a_block:.0f} bytes a block (wanted: at most {WANTED_MEMORY})")
-    rights.append(groups.right)
+    for name in ("objects", "groups", *(["repeated"] if given.sample else [])):
+        done = attempt(folder, given, name, given.blocks)
+        if done.right:
+            print(f"{name}: the ratio is {done.ratio:.2f} (wanted: at most {WANTED_RATIO}); beside file and output"
+                  f" {done.memory_a_block:.0f} bytes a block (wanted: at most {WANTED_MEMORY})")
+        rights.append(done.right)
     for name, count in (("slots", given.slots), ("one_group", given.blocks)):
         once, twice = (attempt(folder, given, name, times * count) for times in (1, 2))
         rights += [once.right, twice.right]
@@ -287,6 +304,7 @@ def main():
     words.add_argument("--blocks", type=int, default=200_000, help="how many struct blocks, 10 to 1000000")
     words.add_argument("--slots", type=int, default=1_000_000, help="how many pointers, 1000 to 4000000")
     words.add_argument("--rounds", type=int, default=5, help="how often both are run")
+    words.add_argument("--sample", type=pathlib.Path, help="a file that Blender saved, uncompressed")
     words.add_argument("--folder", help="where the temporary folder is made")
     given = words.parse_args()
     if not 10 <= given.blocks <= 1_000_000 or not 1_000 <= given.slots <= 4_000_000 or given.rounds < 1:

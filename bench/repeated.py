@@ -1,0 +1,56 @@
+"""Makes a large file of one that Blender saved, with 8-byte pointers and the lowest byte first: its blocks stand
+many times over, each time at other addresses, and what they name moves with them. So groups, structs and pointers are
+as many and as large as Blender's are."""
+import array
+import struct
+import sys
+
+import converted
+
+HEAD = struct.Struct("<4sIQII")
+# How far the addresses of one repetition are from those of the one before: more than a program has memory.
+APART = 2 ** 48
+
+
+def words(payload):
+    """The aligned words of a payload that are whole."""
+    found = array.array("Q", payload[:len(payload) // 8 * 8])
+    if sys.byteorder == "big":
+        found.byteswap()
+    return found
+
+
+def moved(payload, places, by):
+    """A payload whose words at some places are addresses that move."""
+    if not places or not by:
+        return payload
+    own = words(payload)
+    for place in places:
+        own[place] = (own[place] + by) % 2 ** 64
+    if sys.byteorder == "big":
+        own.byteswap()
+    return own.tobytes() + payload[len(own) * 8:]
+
+
+def write(path, sample, structs):
+    """Writes the blocks of a sample so often that so many of structs stand in the file."""
+    form = converted.form(sample)
+    if form is None or (form.width, form.order) != (8, "<"):
+        sys.exit("the sample hasn't 8-byte pointers and the lowest byte first, or is compressed")
+    blocks = list(converted.blocks(sample, form))
+    nodes = [block for block in blocks if block.code != b"DNA1"]
+    addresses = {block.address for block in nodes} - {0}
+    named = [[place for place, word in enumerate(words(block.payload)) if word in addresses] for block in nodes]
+    times = -(-structs // sum(block.index != 0 for block in nodes))
+    with open(path, "wb", buffering=2 ** 20) as file:
+        file.write(sample[:12])
+        for by in range(0, times * APART, APART):
+            for block, places in zip(nodes, named):
+                payload = moved(block.payload, places, by)
+                address = (block.address + by) % 2 ** 64
+                file.write(HEAD.pack(block.code, len(payload), address, block.index, block.count) + payload)
+        for block in blocks:
+            if block.code == b"DNA1":
+                file.write(HEAD.pack(block.code, len(block.payload), block.address, block.index, block.count)
+                           + block.payload)
+        file.write(b"ENDB" + bytes(20))
