@@ -1,5 +1,5 @@
 -- What an answer of a shelf says of the files that it tells.
-use Rattle.std.specs.Prelude.{◌≡◌, ℕ, ◌≤◌, List, length, take, drop, Option, Some, None, option_map, IfSome, Result, IsErrOf}
+use Rattle.std.specs.Prelude.{◌≡◌, ℕ, ◌<◌, ◌≤◌, All, List, length, take, drop, Option, Some, None, option_map, IfSome, Result, IsErrOf}
 use Rattle.std.specs.Option.{ForSome}
 use Rattle.bl_shelf.specs.Told.{Told, bytes_under}
 use Rattle.bl_shelf.specs.declared.shelf.ShelfFault.{ShelfFault}
@@ -17,6 +17,10 @@ Reaches told name end = ForSome told (λ t. ForSome (bytes_under name t) (λ byt
 abbrev pub AreBytesAt : Option Told → List ℕ → ℕ → List ℕ → Type 0
 AreBytesAt told name at part =
     IfSome told (λ t. option_map (λ bytes. take (length part) (drop at bytes)) (bytes_under name t) ≡ Some part)
+
+-- where the shelf tells and has the name, its bytes are below 256
+abbrev pub IsOfBytes : Option Told → List ℕ → Type 0
+IsOfBytes told name = IfSome told (λ t. IfSome (bytes_under name t) (All (λ byte. byte < 256)))
 
 -- where the shelf tells, `Absent` comes exactly where the name isn't held
 pub record IsAbsentExactly {T : Type 0} (told : Option Told) (name : List ℕ) (result : Result T ShelfFault) : Type 0 where

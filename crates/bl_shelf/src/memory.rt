@@ -60,7 +60,7 @@ impl Shelf for MemoryShelf {
     ghost use Rattle.std.specs.Prelude.{◌≡◌, ◌↔◌, ◌≢◌, ◌+◌, ◌-◌, ◌^◌, ◌<◌, ◌≤◌, None, option_map, length, IsErrOf, OnOk, OnErr, IfOk, IsSome, IsSomeAnd};
     ghost use Rattle.bl_shelf.specs.Told.{bytes_under, stage_in, push_in, commit_in, abandon_in};
     ghost use Rattle.bl_shelf.specs.Causes.{HasCause};
-    ghost use Rattle.bl_shelf.specs.Contents.{IsSizeOf, Reaches, AreBytesAt, IsAbsentExactly};
+    ghost use Rattle.bl_shelf.specs.Contents.{IsSizeOf, Reaches, AreBytesAt, IsOfBytes, IsAbsentExactly};
     ghost use Rattle.bl_shelf.specs.Steady.{steady_room-staged};
     ghost use Rattle.bl_shelf.specs.Memory.{memory_contents, memory_room, memory_takes_effect, memory_faults, memory_misses, failed_commit_in, IsDue, KeepsCounts, CountsCall};
 
@@ -102,6 +102,7 @@ impl Shelf for MemoryShelf {
         ensures room { memory_room self.new ≡ memory_room self.old }
         ensures bytes { OnOk result
             (AreBytesAt (Some (memory_contents self.old)) name.now at dst.new) }
+        ensures below { OnOk result (IsOfBytes (Some (memory_contents self.old)) name.now) }
         ensures absent { IsAbsentExactly (Some (memory_contents self.old)) name.now result }
         ensures failed { IsErrOf result ShelfFault.Failed
             ↔ (IsDue self.old × IsSome (bytes_under name.now (memory_contents self.old))) }

@@ -2,7 +2,7 @@
 ghost use Rattle.std.specs.Prelude.{◌≡◌, ◌⊎◌, ◌≢◌, ◌-◌, ◌+◌, ◌<◌, ◌≤◌, ◌^◌, ℕ, length, Option, Some, None, option_map, is_some, IsSome, IsSomeAnd, IfSome, IfOk, OnOk, OnErr};
 ghost use Rattle.bl_shelf.specs.Causes.{HasCause};
 ghost use Rattle.bl_shelf.specs.Told.{Told, held_of, stage_in, push_in, commit_in, abandon_in};
-ghost use Rattle.bl_shelf.specs.Contents.{IsSizeOf, Reaches, AreBytesAt, IsAbsentExactly};
+ghost use Rattle.bl_shelf.specs.Contents.{IsSizeOf, Reaches, AreBytesAt, IsOfBytes, IsAbsentExactly};
 ghost use Rattle.bl_shelf.specs.declared.shelf.ShelfFault.TheVariants.{NoMemory};
 
 use std::alloc::{AllocError, AllocFailed};
@@ -70,6 +70,7 @@ pub trait Shelf {
         ensures cause { HasCause (faults self.old) (faults self.new)
             (misses self.old) (misses self.new) result }
         ensures bytes { OnOk result (AreBytesAt (told self.old) name.now at dst.new) }
+        ensures below { OnOk result (IsOfBytes (told self.old) name.now) }
         ensures absent { IsAbsentExactly (told self.old) name.now result }
         ensures no_memory { result ≢ Err ShelfFault.NoMemory };
 

@@ -70,7 +70,7 @@ impl Shelf for SteadyShelf {
     ghost use Rattle.std.specs.Prelude.{◌≡◌, ◌-◌, ◌^◌, ◌<◌, None, Ok, option_map, length, OnOk, OnErr, IfOk, IsSome, IsSomeAnd};
     ghost use Rattle.bl_shelf.specs.Told.{bytes_under, stage_in, push_in, commit_in, abandon_in};
     ghost use Rattle.bl_shelf.specs.Causes.{HasCause, misses_after};
-    ghost use Rattle.bl_shelf.specs.Contents.{IsSizeOf, Reaches, AreBytesAt, IsAbsentExactly};
+    ghost use Rattle.bl_shelf.specs.Contents.{IsSizeOf, Reaches, AreBytesAt, IsOfBytes, IsAbsentExactly};
     ghost use Rattle.bl_shelf.specs.Steady.{steady_contents, steady_room, steady_misses, steady_room-staged};
 
     ghost told = { λ s. Some (steady_contents s) };
@@ -110,6 +110,7 @@ impl Shelf for SteadyShelf {
         ensures cause { HasCause 0 0 (steady_misses self.old) (steady_misses self.new) result }
         ensures bytes { OnOk result
             (AreBytesAt (Some (steady_contents self.old)) name.now at dst.new) }
+        ensures below { OnOk result (IsOfBytes (Some (steady_contents self.old)) name.now) }
         ensures absent { IsAbsentExactly (Some (steady_contents self.old)) name.now result }
         ensures fault { OnErr result (result ≡ Err ShelfFault.Absent) }
     {
