@@ -8,6 +8,7 @@ pub mod KindLaws
 pub mod KindLemmas
 pub mod NodeViewLaws
 pub mod Opens
+pub mod PageLemmas
 pub mod PairLemmas
 pub mod ReadLemmas
 pub mod Readings

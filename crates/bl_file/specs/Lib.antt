@@ -8,3 +8,4 @@ pub mod Steps
 pub mod Views
 pub mod Seen
 pub mod Speakers
+pub mod Pages

@@ -1,0 +1,84 @@
+-- What a page says of the bytes that are held.
+use Rattle.std.proofs.Common.{◌≡◌, ℕ, ◌+◌, ◌-◌, ◌≤◌, ◌<◌, All, List, length, take, drop, Option, Some, None, option_map, Result, refl, sym, ap, ◌∙◌, arith}
+use Rattle.std.specs.Prelude.{IfSome, IsSomeAnd, IsErrOf}
+use Rattle.std.specs.Option.{ForSome}
+use Rattle.std.proofs.lemmas.List.{take_all, take-take, drop-drop, drop-take}
+use Rattle.bl_shelf.specs.Told.{Told, bytes_under}
+use Rattle.bl_shelf.specs.Contents.{Reaches, AreBytesAt, IsAbsentExactly, IsOfBytes}
+use Rattle.bl_shelf.specs.declared.shelf.ShelfFault.{ShelfFault}
+use Rattle.bl_shelf.specs.declared.shelf.ShelfFault.TheVariants.{Absent}
+use Rattle.bl_file.specs.Held.{ForHeld, IfHeld, IsHeldAnd}
+use Rattle.bl_file.specs.Pages.{HavePage}
+use Rattle.bl_file.specs.Reading.{IsPartAt}
+use Rattle.bl_file.proofs.HeldLemmas.{IsHeldAnd-ForHeld, IsHeldAnd-weaker, IsHeldAnd-both, AreBytesAt-IsPartAt}
+
+-- two lists that begin alike have the same parts there
+same_part : (k n f : ℕ) (x y : List ℕ) → k + n ≤ f → take f x ≡ take f y → take n (drop k x) ≡ take n (drop k y)
+same_part k n f x y within same =
+    sym (drop-take k n x) ∙ ap (drop k) (sym (take-take (k + n) f x within) ∙ ap (take (k + n)) same ∙ take-take (k + n) f y within) ∙ drop-take k n y
+
+-- what stands in the page stands in the bytes
+part_of : (size from filled at n : ℕ) (page b : List ℕ) → HavePage size from filled page b → from ≤ at → at - from + n ≤ filled
+    → take n (drop at b) ≡ take n (drop (at - from) page)
+part_of size from filled at n page b have behind within =
+    let place : from + (at - from) ≡ at = omega (arith, behind) in
+    ap (λ (i : ℕ). take n (drop i b)) (sym place) ∙ ap (take n) (sym (drop-drop (at - from) from b))
+    ∙ same_part (at - from) n filled (drop from b) page within have.part
+
+copied_of : (o : Option (List ℕ)) (size from filled at : ℕ) (page part : List ℕ) → IsSomeAnd o (HavePage size from filled page) → from ≤ at → at - from + length part ≤ filled
+    → part ≡ take (length part) (drop (at - from) page) → option_map (λ bytes. take (length part) (drop at bytes)) o ≡ Some part
+copied_of (Some b) size from filled at page part have behind within is = ap Some (part_of size from filled at (length part) page b have behind within ∙ sym is)
+copied_of None size from filled at page part none behind within is = absurd none
+
+module _ (told : Option Told) (name : List ℕ) (size from filled : ℕ) (page : List ℕ) (held : IsHeldAnd told name (HavePage size from filled page)) where
+  -- what is copied of a page are bytes of the file
+  pub copied_page : (at : ℕ) (part : List ℕ) → from ≤ at → at - from + length part ≤ filled → part ≡ take (length part) (drop (at - from) page) → AreBytesAt told name at part
+  copied_page = go told held
+    where
+      go : (o : Option Told) → IsHeldAnd o name (HavePage size from filled page) → (at : ℕ) (part : List ℕ) → from ≤ at → at - from + length part ≤ filled
+          → part ≡ take (length part) (drop (at - from) page) → AreBytesAt o name at part
+      go None h at part behind within is = tt
+      go (Some t) h at part behind within is = copied_of (bytes_under name t) size from filled at page part h behind within is
+
+  -- the file reaches as far as its size
+  pub page_reaches : (end : ℕ) → end ≤ size → Reaches told name end
+  page_reaches end within =
+      IsHeldAnd-ForHeld told name (λ bytes. end ≤ length bytes)
+      (IsHeldAnd-weaker told name (HavePage size from filled page) (λ bytes. end ≤ length bytes) held (λ b have. let whole = have.whole in omega (arith, whole, within)))
+
+  -- a page of no bytes says as much of the file
+  pub empty_page : (other : List ℕ) → IsHeldAnd told name (HavePage size from 0 other)
+  empty_page other =
+      IsHeldAnd-weaker told name (HavePage size from filled page) (HavePage size from 0 other) held (λ b have. record { whole = have.whole; below = have.below; part = refl })
+
+  -- a page that was read says of the file what it holds
+  pub read_page : (at n : ℕ) (part now : List ℕ) → AreBytesAt told name at part → length part ≡ n → take n now ≡ part → IsHeldAnd told name (HavePage size at n now)
+  read_page at n part now read len is =
+      IsHeldAnd-both told name (HavePage size from filled page) (IsPartAt size at part) (HavePage size at n now) held
+      (AreBytesAt-IsPartAt told name (HavePage size from filled page) size at part read held (λ b have. have.whole))
+      (λ b have copied. record { whole = have.whole; below = have.below; part = ap (λ (i : ℕ). take i (drop at b)) (sym len) ∙ copied.bytes ∙ sym is })
+
+  -- the file isn't gone
+  pub held_present : {T : Type 0} (result : Result T ShelfFault) → IsAbsentExactly told name result → IsErrOf result Absent → told ≡ None
+  held_present result absent is = go told held (absent.only is)
+    where
+      gone : (o : Option (List ℕ)) → IsSomeAnd o (HavePage size from filled page) → o ≡ None → ⊥
+      gone None none is = none
+      gone (Some b) have is = cc
+
+      go : (o : Option Told) → IsHeldAnd o name (HavePage size from filled page) → IfSome o (λ t. bytes_under name t ≡ None) → o ≡ None
+      go None h missed = refl
+      go (Some t) h missed = absurd (gone (bytes_under name t) h missed)
+
+first_of : (o : Option (List ℕ)) (size : ℕ) (page : List ℕ) → ForSome o (λ b. length b ≡ size) → IfSome o (All (λ byte. byte < 256)) → option_map (λ bytes. take (length page) (drop 0 bytes)) o ≡ Some page
+    → IfSome o (HavePage size 0 (length page) page)
+first_of None size page len below read = tt
+first_of (Some b) size page len below read =
+    record { whole = len b refl; below = below; part = let same : take (length page) b ≡ page = cc in same ∙ sym (take_all (length page) page (omega arith)) }
+
+-- the first page says of the file what it holds
+pub first_page : (told : Option Told) (name : List ℕ) (size n : ℕ) (page : List ℕ) → ForHeld told name (λ b. length b ≡ size) → IsOfBytes told name → AreBytesAt told name 0 page → n ≡ length page
+    → IfHeld told name (HavePage size 0 n page)
+first_page None name size n page len below read is = tt
+first_page (Some t) name size n page len below read is =
+    rw is (first_of (bytes_under name t) size page (len t refl) below read)

@@ -1,0 +1,182 @@
+// A file of which one page is held.
+ghost use Rattle.std.specs.Prelude.{◌≡◌, ◌≢◌, ◌+◌, ◌-◌, ◌≤◌, None, min, take, drop, length, string_bytes, OnOk, IsErrOf};
+ghost use Rattle.std.specs.Vec.{vec_len};
+ghost use Rattle.bl_shelf.specs.Causes.{HasCause};
+ghost use Rattle.bl_shelf.specs.Contents.{Reaches, AreBytesAt, IsAbsentExactly};
+ghost use Rattle.bl_file.specs.Held.{IsHeldAnd};
+ghost use Rattle.bl_file.specs.Pages.{HavePage};
+
+use crate::Payload;
+use bl_shelf::{Shelf, ShelfFault};
+use std::alloc::Global;
+
+// The bytes of a page, or fewer where the file has fewer.
+const PAGE: u64 = 131_072;
+
+/// A file of which one page is held. What stands in there is copied, what is as long as a page is
+/// read by itself, and for anything else the page is read that begins with it.
+#[derive(Drop)]
+pub struct PagedPayload {
+    name: String,
+    size: u64,
+    // where the page stands in the file, and how many of its bytes are read
+    from: u64,
+    filled: usize,
+    page: Vec<u8>,
+    ghost within: { filled ≤ vec_len page },
+}
+
+impl PagedPayload {
+    // Reads the page that begins at a place, up to its length or the file's end. After a failure it
+    // is empty.
+    fn turn<S: Shelf>(&mut self, shelf: &mut S, at: u64) -> Result<(), ShelfFault>
+        requires inside { at ≤ self.old.size }
+        requires held { IsHeldAnd (S.told shelf.old) (string_bytes self.old.name)
+            (HavePage self.old.size self.old.from self.old.filled self.old.page.items) }
+        ensures from { OnOk result (self.new.from ≡ at) }
+        ensures filled { OnOk result
+            (self.new.filled ≡ min (vec_len self.old.page) (self.old.size - at)) }
+        ensures len { vec_len self.new.page ≡ vec_len self.old.page }
+        ensures name { self.new.name ≡ self.old.name }
+        ensures size { self.new.size ≡ self.old.size }
+        ensures held { IsHeldAnd (S.told shelf.old) (string_bytes self.old.name)
+            (HavePage self.old.size self.new.from self.new.filled self.new.page.items) }
+        ensures told { S.told shelf.new ≡ S.told shelf.old }
+        ensures room { S.room shelf.new ≡ S.room shelf.old }
+        ensures cause { HasCause (S.faults shelf.old) (S.faults shelf.new)
+            (S.misses shelf.old) (S.misses shelf.new) result }
+        ensures absent { IsErrOf result ShelfFault.Absent → S.told shelf.old ≡ None }
+        ensures no_memory { result ≢ Err ShelfFault.NoMemory }
+    {
+        let filled = (self.size - at).min(self.page.len() as u64) as usize;
+        self.filled = 0;
+        read_first(shelf, self.name.as_str(), at, &mut self.page, filled)?;
+        self.from = at;
+        self.filled = filled;
+        Ok(())
+    }
+}
+
+impl Payload for PagedPayload {
+    ghost file_name = { λ p. string_bytes p.name };
+
+    ghost file_size = { λ p. p.size };
+
+    ghost agrees = { λ p. HavePage p.size p.from p.filled p.page.items };
+
+    ghost agreed_size = { λ p bytes agrees. agrees.whole };
+
+    ghost agreed_bytes = { λ p bytes agrees. agrees.below };
+
+    fn start<S: Shelf>(
+        alloc: Global,
+        shelf: &mut S,
+        name: &str,
+        size: u64,
+    ) -> Result<Self, ShelfFault> {
+        let own_name = String::from_str(alloc, name)?;
+        let mut page = vec![in alloc; 0; size.min(PAGE) as usize]?;
+        shelf.read_at(name, 0, &mut page)?;
+        Ok(PagedPayload {
+            name: own_name,
+            size,
+            from: 0,
+            filled: page.len(),
+            page,
+        })
+    }
+
+    fn copy_out<S: Shelf>(
+        &mut self,
+        shelf: &mut S,
+        at: u64,
+        dst: &mut [u8],
+    ) -> Result<(), ShelfFault> {
+        if self.from <= at && at - self.from + dst.len() as u64 <= self.filled as u64 {
+            copy_part(&self.page, at - self.from, dst);
+            return Ok(());
+        }
+        if dst.len() >= self.page.len() {
+            return shelf.read_at(self.name.as_str(), at, dst);
+        }
+        self.turn(shelf, at)?;
+        copy_part(&self.page, 0, dst);
+        Ok(())
+    }
+}
+
+// Fills as many bytes of a page with those of a file from a place on.
+fn read_first<S: Shelf>(
+    shelf: &mut S,
+    name: &str,
+    at: u64,
+    page: &mut [u8],
+    filled: usize,
+) -> Result<(), ShelfFault>
+    requires room { filled ≤ length page.old }
+    requires reaches { Reaches (S.told shelf.old) name.now (at + filled) }
+    ensures bytes { OnOk result (AreBytesAt (S.told shelf.old) name.now at (take filled page.new)) }
+    ensures told { S.told shelf.new ≡ S.told shelf.old }
+    ensures room { S.room shelf.new ≡ S.room shelf.old }
+    ensures cause { HasCause (S.faults shelf.old) (S.faults shelf.new)
+        (S.misses shelf.old) (S.misses shelf.new) result }
+    ensures absent { IsAbsentExactly (S.told shelf.old) name.now result }
+    ensures no_memory { result ≢ Err ShelfFault.NoMemory }
+{
+    shelf.read_at(name, at, &mut page[..filled])
+}
+
+// Copies what stands at a place of a page.
+fn copy_part(page: &[u8], place: u64, dst: &mut [u8])
+    requires { place + length dst.old ≤ length page.now }
+    ensures { dst.new ≡ take (length dst.old) (drop place page.now) }
+{
+    let rest = &page[place as usize..];
+    dst.copy_from_slice(&rest[..dst.len()]);
+}
+
+#[cfg(test)]
+mod tests {
+    use super::*;
+    use bl_shelf::SteadyShelf;
+    use std::test::Fail;
+
+    // The size of a file and, where it ends 8 bytes behind a page, the last 2 of the page, 4 from the
+    // last one on, and as many as there is room for.
+    fn size_and_parts<P: Payload, S: Shelf>(
+        alloc: Global,
+        shelf: &mut S,
+        name: &str,
+        part: &mut [u8; 6],
+        long: &mut [u8],
+    ) -> Result<u64, ShelfFault> {
+        let size = shelf.size(name)?;
+        let mut payload = P::start(alloc, shelf, name, size)?;
+        if size == 131_080 && long.len() <= 131_080 {
+            payload.copy_out(shelf, 131_070, &mut part[..2])?;
+            payload.copy_out(shelf, 131_071, &mut part[2..])?;
+            payload.copy_out(shelf, 0, long)?;
+        }
+        Ok(size)
+    }
+
+    #[test]
+    fn copies_parts(rt: HostRuntime) -> Result<(), Fail> {
+        let alloc = rt.alloc();
+        let mut file = vec![in alloc; b'.'; 131_070]?;
+        file.extend_from_slice(b"abcdefghij")?;
+        let mut shelf = SteadyShelf::new(alloc);
+        shelf.hold("a", &file)?;
+        let mut part = [0; 6];
+        let mut long = vec![in alloc; 0; 131_078]?;
+        for (name, want) in [("a", Ok(131_080)), ("b", Err(ShelfFault::Absent))] {
+            let size = size_and_parts::<PagedPayload, SteadyShelf>(
+                alloc, &mut shelf, name, &mut part, &mut long,
+            );
+            assert_eq!(rt; size, want);
+        }
+        assert_eq!(rt; &part, b"abbcde");
+        assert!(rt; long.ends_with(b".abcdefgh"));
+        Ok(())
+    }
+}
