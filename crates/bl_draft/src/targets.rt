@@ -62,6 +62,10 @@ impl<'a> Targets for EntryTargets<'a> {
             None => None,
         }
     }
+
+    fn is_silent(&self, _node: u32) -> bool {
+        false
+    }
 }
 
 impl<'a> EntryTargets<'a> {

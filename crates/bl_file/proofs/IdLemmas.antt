@@ -19,7 +19,8 @@ use Rattle.bl_layout.proofs.NameLemmas.{entry_shape}
 use Rattle.bl_file.specs.Ids.{is_id_struct, id_parts, is_id_by}
 use Rattle.bl_file.specs.Outlines.{ids_of}
 
-get_or-numbers_below : (n k d : ℕ) → k < n → get_or (numbers_below n) k d ≡ k
+-- number k is k
+pub get_or-numbers_below : (n k d : ℕ) → k < n → get_or (numbers_below n) k d ≡ k
 get_or-numbers_below zero k d lt = absurd (omega arith)
 get_or-numbers_below (suc n) k d lt = elim (cases_lt k n) [
   | inl less ↦ (get_or_append_left (numbers_below n) (n ∷ []) d k (omega (arith, length-numbers_below n))

@@ -10,6 +10,8 @@ pub mod NodeViewLaws
 pub mod Opens
 pub mod PageLemmas
 pub mod PairLemmas
+pub mod RawGroupLemmas
+pub mod RawNameLaws
 pub mod ReadLemmas
 pub mod Readings
 pub mod RefusalLaws

@@ -1,5 +1,5 @@
 -- What addresses name by a table of nodes, and that the views of a file are by its own.
-use Rattle.std.proofs.Common.{◌≡◌, ◌<◌, ◌≤◌, ℕ, suc, ◌+◌, Bool, true, false, cond, List, [], ◌∷◌, ◌++◌, length, get_or, Option, Some, None, refl, sym, ap, subst, ◌∙◌, arith}
+use Rattle.std.proofs.Common.{◌≡◌, ◌<◌, ◌≤◌, ℕ, suc, ◌+◌, Bool, true, false, cond, List, [], ◌∷◌, ◌++◌, length, get_or, Option, Some, None, refl, sym, ap, ◌∙◌, arith}
 use Rattle.std.specs.Prelude.{◌==◌, ◌&&◌, map, flat_map, slice_get, option_map, IfSome}
 use Rattle.std.specs.List.{enumerate_from}
 use Rattle.std.specs.Option.{option_or}
@@ -9,10 +9,9 @@ use Rattle.std.proofs.lemmas.Option.{slice_get-get_or}
 use Rattle.bl_format.specs.declared.file.Header.{Header}
 use Rattle.bl_format.specs.declared.file.Head.{Head}
 use Rattle.bl_format.specs.declared.catalogue.Catalogue.{Catalogue}
-use Rattle.bl_format.specs.declared.raw.View.{View}
 use Rattle.bl_format.specs.Words.{last_from}
-use Rattle.bl_format.specs.Nodes.{File, Mark, group_of, mark, marks, target_of}
-use Rattle.bl_format.specs.Graph.{file_codes, node_cells, node_views, file_views}
+use Rattle.bl_format.specs.Nodes.{Mark, group_of, mark, marks, target_of}
+use Rattle.bl_format.specs.Graph.{node_cells, node_views, file_views}
 use Rattle.bl_selection.specs.Selection.{no_head}
 use Rattle.bl_file.specs.Outlines.{file_with, marks_of}
 use Rattle.bl_file.specs.Seen.{mark_group, table_names, named_views, views_seen}
@@ -25,7 +24,8 @@ found_inside (Some k) b i n lt = omega (arith, lt)
 found_inside None true i n lt = omega arith
 found_inside None false i n lt = tt
 
-last_from-inside : {X : Type 0} (p : X → Bool) (i : ℕ) (xs : List X) → IfSome (last_from p i xs) (λ k. k < i + length xs)
+-- the last element that passes is there
+pub last_from-inside : {X : Type 0} (p : X → Bool) (i : ℕ) (xs : List X) → IfSome (last_from p i xs) (λ k. k < i + length xs)
 last_from-inside p i [] = tt
 last_from-inside p i (x ∷ xs) = found_inside (last_from p (suc i) xs) (p x) i (length xs) (last_from-inside p (suc i) xs)
 
@@ -46,7 +46,8 @@ target_of-inside ms group address =
 
 -- ---- groups
 
-group_is : (o : Option Mark) (group : ℕ) → option_map (λ (m : Mark). m.group) o ≡ Some group → group ≡ mark_group o
+-- the group of a node is that of its mark
+pub group_is : (o : Option Mark) (group : ℕ) → option_map (λ (m : Mark). m.group) o ≡ Some group → group ≡ mark_group o
 group_is None group e = absurd (cc)
 group_is (Some m) group e = cc
 
@@ -68,17 +69,22 @@ unfolding marks
 marks-long h c nodes =
     length-map (enumerate_from 0 nodes) (λ (p : ℕ × Head). mark (file_with h c nodes []) p.0 p.1) ∙ length-enumerate_from 0 nodes
 
-group_at : (h : Header) (c : Catalogue) (nodes : List Head) (k : ℕ) (d : Mark) → k < length nodes
-    → (get_or (marks_of h c nodes) k d).group ≡ group_of (map (λ (y : Head). y.code) nodes) k
+-- the mark of a node
+pub mark_told : (h : Header) (c : Catalogue) (nodes : List Head) (k : ℕ) (d : Mark) → k < length nodes
+    → get_or (marks_of h c nodes) k d ≡ mark (file_with h c nodes []) k (get_or nodes k no_head)
 unfolding marks
-group_at h c nodes k d lt =
+mark_told h c nodes k d lt =
     let f = file_with h c nodes [] in
     let of : ℕ × Head → Mark = λ p. mark f p.0 p.1 in
     let here : 0 + k ≡ k = omega arith in
-    ap (λ (m : Mark). m.group)
-    (get_or-map of (enumerate_from 0 nodes) k (0, no_head) d (omega (arith, lt, length-enumerate_from 0 nodes))
-    ∙ ap of (get_or-enumerate_from 0 nodes k (0, no_head) lt))
-    ∙ ap (group_of (map (λ (y : Head). y.code) nodes)) here
+    get_or-map of (enumerate_from 0 nodes) k (0, no_head) d (omega (arith, lt, length-enumerate_from 0 nodes))
+    ∙ ap of (get_or-enumerate_from 0 nodes k (0, no_head) lt)
+    ∙ ap (λ n. mark f n (get_or nodes k no_head)) here
+
+-- its group
+pub group_at : (h : Header) (c : Catalogue) (nodes : List Head) (k : ℕ) (d : Mark) → k < length nodes
+    → (get_or (marks_of h c nodes) k d).group ≡ group_of (map (λ (y : Head). y.code) nodes) k
+group_at h c nodes k d lt = ap (λ (m : Mark). m.group) (mark_told h c nodes k d lt)
 
 -- the group in the table of a file's nodes is that of the node
 group_told : (h : Header) (c : Catalogue) (nodes : List Head) (k : ℕ) → k < length nodes

@@ -74,7 +74,8 @@ said_none : (nodes : List Head) (said : Option RawKind) → [] ≡ views_said no
 said_none nodes None = refl
 said_none nodes (Some kind) = refl
 
-kept_pointer : (c : Catalogue) (nodes : List Head) (depth t : ℕ) (target : Target)
+-- what is kept of the view of a pointer
+pub kept_pointer : (c : Catalogue) (nodes : List Head) (depth t : ℕ) (target : Target)
     → raw_only nodes (view_by c (kinds.Pointer depth t) (Points target))
     ≡ views_said nodes target (said_by (basic_lengths c) (kinds.Pointer depth t))
 kept_pointer c nodes depth t None = said_none nodes (said_by (basic_lengths c) (kinds.Pointer depth t))

@@ -49,7 +49,8 @@ flat_map-take f xs i d lt =
 
 -- ---- nodes that are there
 
-raw_inside : (nodes : List Head) (n : ℕ) → is_raw nodes n ≡ true → n < length nodes
+-- a raw node is there
+pub raw_inside : (nodes : List Head) (n : ℕ) → is_raw nodes n ≡ true → n < length nodes
 raw_inside [] n is = absurd (cc)
 raw_inside (x ∷ xs) zero is = omega arith
 raw_inside (x ∷ xs) (suc n) is = let lt : n < length xs = raw_inside xs n is in omega (arith, lt)

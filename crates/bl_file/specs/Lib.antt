@@ -1,3 +1,4 @@
+pub mod Groups
 pub mod Held
 pub mod Ids
 pub mod Opening

@@ -13,7 +13,7 @@ use crate::Payload;
 use crate::basics::basic_lengths;
 use crate::node_views::nodes_said;
 use crate::speakers::struct_speakers;
-use crate::targets::{FileTargets, Targets};
+use crate::targets::{GroupTargets, Targets};
 use crate::views::Sight;
 use bl_addresses::Table;
 use bl_format::{Head, Header, RawKind, View};
@@ -111,7 +111,7 @@ pub fn kinds_of<S: Shelf, P: Payload>(
         (S.misses shelf.old) (S.misses shelf.new) result }
     ensures absent { IsErrOf result ShelfFault.Absent → S.told shelf.old ≡ None }
 {
-    let targets = FileTargets { table };
+    let targets = GroupTargets::new(alloc, table, nodes)?;
     raw_kinds(alloc, payload, shelf, header, layout, nodes, &targets)
 }
 

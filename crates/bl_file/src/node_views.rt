@@ -79,6 +79,9 @@ fn node_said<S: Shelf, P: Payload, T: Targets>(
         (S.misses shelf.old) (S.misses shelf.new) result }
     ensures absent { IsErrOf result ShelfFault.Absent → S.told shelf.old ≡ None }
 {
+    if targets.is_silent(number) {
+        return Ok(());
+    }
     let node = &sight.nodes[number as usize];
     if node.index == 0 {
         return Ok(());

@@ -1,7 +1,8 @@
-use Rattle.std.proofs.Common.{◌≡◌, ◌++◌, List, [], ℕ, length, refl, sym, ap, ◌∙◌, arith}
+use Rattle.std.proofs.Common.{◌++◌, sym, ap, ◌∙◌, arith}
 use Rattle.std.proofs.lemmas.Bool.{eqb-true}
 use Rattle.std.proofs.lemmas.Result.{on_ok_weaker}
 use Rattle.bl_file.proofs.ReadLemmas.{held_so}
+use Rattle.bl_file.proofs.RawGroupLemmas.{silent_node}
 use Rattle.bl_file.proofs.SightLemmas.{length_short}
 use Rattle.bl_file.proofs.SpeakerLemmas.{node_struct, node_heard, node_says, node_says_nothing}
 use Rattle.bl_file.proofs.node_views.node_said.Goals as goal
@@ -14,6 +15,12 @@ split_at_mut-bytes-requires g c =
     let of = c.args.sight.now.layout.now in
     let short = length_short of.catalogue of.width _ c.length.result c.length.ensures c.requires.sight.has_layout in
     omega (arith, short, c.requires.buffer)
+
+pub returns-then-is_silent-clause-said : goal.returns-then-is_silent-clause-said
+returns-then-is_silent-clause-said g c =
+    held_so (g.S.Shelf.told c.args.shelf.now) (g.P.Payload.file_name c.args.payload.now) _ _ c.requires.held
+    (λ b agrees. silent_node (g.T.Targets.names c.args.targets.now) c.args.sight.now b c.args.number c.args.seen.now.items
+    (c.is_silent.ensures c.if-is_silent.true))
 
 pub elements_said-requires-clause-heard : goal.elements_said-requires-clause-heard
 elements_said-requires-clause-heard g c =
