@@ -26,7 +26,7 @@ pub use opened::open;
 pub use outline::{Opened, Outline};
 pub use paged::PagedPayload;
 pub use payload::Payload;
-pub use targets::Targets;
+pub use targets::{FileTargets, Targets};
 pub use whole::WholePayload;
 
 #[cfg(test)]
