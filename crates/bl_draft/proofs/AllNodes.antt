@@ -1,12 +1,14 @@
--- Drafts of all nodes of a file: the test for them, and that their kinds are those of the file.
+-- Drafts of all nodes of a file: the test for them, and that their heads, what addresses name from them, and their kinds are
+-- those of the file.
 use Rattle.std.proofs.Common.{◌≡◌, ◌<◌, ℕ, ◌+◌, true, List, [], ◌∷◌, ◌++◌, length, get_or, take, refl, sym, ap, subst, ◌∙◌, arith}
-use Rattle.std.specs.Prelude.{◌==◌, map}
+use Rattle.std.specs.Prelude.{◌==◌, map, slice_get}
 use Rattle.std.proofs.lemmas.Bool.{eqb-true, and_parts}
 use Rattle.std.proofs.lemmas.List.{ext_get_or, get_or-map, length-map, take_more, take_all}
+use Rattle.std.proofs.lemmas.Option.{slice_get-get_or}
 use Rattle.bl_format.specs.declared.file.Head.{Head}
 use Rattle.bl_format.specs.declared.raw.RawKind.{RawKind}
 use Rattle.bl_format.specs.Words.{numbers_below}
-use Rattle.bl_format.specs.Nodes.{File, group_of}
+use Rattle.bl_format.specs.Nodes.{File, Mark, group_of, marks, target_of}
 use Rattle.bl_format.specs.Graph.{file_codes, file_names, file_views, node_cells}
 use Rattle.bl_selection.specs.declared.draft.Draft.{Draft}
 use Rattle.bl_selection.specs.declared.draft.Entry.{Entry}
@@ -16,13 +18,15 @@ use Rattle.bl_selection.proofs.EntriesAsNodes.{length-numbers_below}
 use Rattle.bl_selection.proofs.OwnFormNames.{HaveOwnIndex, own_selection, length-entries, entry_at-own, names-own}
 use Rattle.bl_file.specs.declared.outline.Outline.{Outline}
 use Rattle.bl_file.specs.Opening.{kinds_in}
-use Rattle.bl_file.specs.Outlines.{ArePairsLong, IsSound, StandsFor}
-use Rattle.bl_file.specs.Seen.{Namings, kinds_seen, views_seen}
+use Rattle.bl_file.specs.Outlines.{IsSound, StandsFor}
+use Rattle.bl_file.specs.Seen.{Namings, mark_group, table_names, kinds_seen, views_seen}
+use Rattle.bl_draft.specs.Entries.{no_mark}
 use Rattle.bl_draft.specs.Own.{IsOwnDraft, entry_head, entry_heads, entry_kinds, entry_node, outlined, own_names}
 use Rattle.bl_draft.specs.Whole.{IsOfAll, all_entries}
 use Rattle.bl_draft.proofs.ListLemmas.{get_or-by, map-numbers}
 use Rattle.bl_draft.proofs.OutlineFacts.{sound-HaveOwnIndex, sound-plain}
 use Rattle.bl_draft.proofs.OwnDrafts.{IsDraftOf-own}
+use Rattle.bl_draft.proofs.OwnNames.{length-marks, mark_at}
 use Rattle.bl_draft.proofs.OwnViews.{selection_views-own}
 
 -- ---- the test
@@ -75,6 +79,11 @@ heads-all nodes =
     get_or-map (entry_head nodes) (all_entries n) k (entries.Raw [] []) no_head (omega (arith, lt, long))
     ∙ ap (entry_head nodes) (get_or-by (entries.Source 0) n k (entries.Raw [] []) lt))
 
+-- so the nodes of an outline are its heads
+pub nodes-known : (o : Outline) (d : Draft) (nodes : List Head) → IsOfAll (length o.nodes) d → nodes ≡ o.nodes
+    → nodes ≡ entry_heads o.nodes d.entries
+nodes-known o d nodes all is = is ∙ sym (ap (entry_heads o.nodes) all.0 ∙ heads-all o.nodes)
+
 -- what addresses name from the nodes of a file
 abbrev names_in : File → Namings
 names_in f k = file_names f (group_of (file_codes f) k)
@@ -115,26 +124,29 @@ pub kinds-known : (o : Outline) (b : List ℕ) (d : Draft) (kinds : List RawKind
 kinds-known o b d kinds sound own all same stands =
     same ∙ stands.kinds ∙ ap kinds_in stands.file ∙ sym (entry_kinds-all o b d sound own all)
 
--- the heads of its entries are the nodes
-heads-known : (o : Outline) (d : Draft) (heads : List Head) → IsOfAll (length o.nodes) d
-    → heads ≡ entry_heads o.nodes d.entries → heads ≡ o.nodes
-heads-known o d heads all is = is ∙ ap (entry_heads o.nodes) all.0 ∙ heads-all o.nodes
-
--- there are as many kinds as entries
-pub length-known : (o : Outline) (d : Draft) (kinds : List RawKind) → IsSound o → IsOfAll (length o.nodes) d
-    → kinds ≡ o.kinds → length kinds ≡ length d.entries
-length-known o d kinds sound all same =
+-- a node of the outline for each of its entries
+pub length-nodes : (o : Outline) (d : Draft) → IsOfAll (length o.nodes) d → length o.nodes ≡ length d.entries
+length-nodes o d all =
     let n = length o.nodes in
     let long : length (all_entries n) ≡ n = length-map (numbers_below n) (entries.Source 0) ∙ length-numbers_below n in
-    ap (λ (ks : List RawKind). length ks) same ∙ sound.kinds ∙ sym long
-    ∙ sym (ap (λ (es : List Entry). length es) all.0)
+    sym long ∙ sym (ap (λ (es : List Entry). length es) all.0)
 
--- and pairs are long
-pub pairs-known : (o : Outline) (d : Draft) (heads : List Head) (kinds : List RawKind) → IsSound o
-    → IsOfAll (length o.nodes) d → heads ≡ entry_heads o.nodes d.entries → kinds ≡ o.kinds → ArePairsLong heads kinds
-pairs-known o d heads kinds sound all is same =
-    subst (λ (hs : List Head). ArePairsLong hs kinds) (sym (heads-known o d heads all is))
-    (subst (λ (ks : List RawKind). ArePairsLong o.nodes ks) (sym same) sound.pairs)
+-- the group that a table of a file's nodes has for a node
+group_told : (f : File) (k : ℕ) → k < length f.nodes → mark_group (slice_get (marks f) k) ≡ group_of (file_codes f) k
+group_told f k lt =
+    ap mark_group (slice_get-get_or (marks f) k no_mark (omega (arith, lt, length-marks f)))
+    ∙ ap (λ (m : Mark). m.group) (mark_at f k no_mark lt)
+
+-- what addresses name from its entries is what they name by the table of the outline
+pub names-by_table : (o : Outline) (d : Draft) (table : List Mark) → IsSound o → IsOwnDraft o d → IsOfAll (length o.nodes) d
+    → table ≡ o.table → (e : ℕ) → e < length d.entries → table_names table e ≡ own_names (outlined o []) d e
+names-by_table o d table sound own all same e lt =
+    let f = outlined o [] in
+    let below : e < length f.nodes = omega (arith, lt, length-nodes o d all) in
+    ap (λ (ms : List Mark). table_names ms e) (same ∙ sound.table)
+    ∙ ap (target_of (marks f)) (group_told f e below)
+    ∙ own_names-all f (sound-HaveOwnIndex o [] sound) e below
+    ∙ ap (λ (x : Draft). own_names f x e) (sym (of_all-own o [] d own all))
 
 -- so many nodes are those of the outline
 pub of_all-nodes : (o : Outline) (d : Draft) (nodes : List Head) → nodes ≡ o.nodes → IsOfAll (length nodes) d

@@ -53,7 +53,8 @@ pub length-marks : (f : File) → length (marks f) ≡ length f.nodes
 unfolding marks
 length-marks f = length-map (enumerate_from 0 f.nodes) _ ∙ length-enumerate_from 0 f.nodes
 
-mark_at : (f : File) (n : ℕ) (z : Mark) → n < length f.nodes → get_or (marks f) n z ≡ mark f n (get_or f.nodes n no_head)
+-- the mark of a node stands at its place
+pub mark_at : (f : File) (n : ℕ) (z : Mark) → n < length f.nodes → get_or (marks f) n z ≡ mark f n (get_or f.nodes n no_head)
 unfolding marks
 mark_at f n z lt = at_place (λ (p : ℕ × Head). mark f p.0 p.1) f.nodes n no_head z lt
 

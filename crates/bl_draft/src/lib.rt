@@ -13,7 +13,7 @@ pub use bl_selection::{Draft, Entry, Made, MadeTo, MadeValue, Override};
 pub use heads::heads_of;
 pub use kinds::kinds_of_entries;
 pub use targets::{EntryTargets, targets_of};
-pub use whole::whole_draft;
+pub use whole::{is_of_all, whole_draft};
 
 #[cfg(test)]
 mod tests;

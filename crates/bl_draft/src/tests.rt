@@ -3,7 +3,7 @@ ghost use Rattle.std.specs.List.{list_all};
 ghost use Rattle.bl_format.specs.Schema.{CanBeRead};
 
 use crate::whole::draft_of_nodes;
-use crate::{Draft, Entry};
+use crate::{Draft, Entry, is_of_all};
 use bl_format::{Catalogue, Head, Header, SdnaFault};
 use bl_num::{NoMemory, Order, Width};
 use bl_sdna::parse_catalogue;
@@ -115,6 +115,14 @@ fn is_draft(draft: Option<Draft>, nodes: &[u32], images: &[u32]) -> bool {
     }
 }
 
+// Whether a draft is there that has all of so many nodes, each as its own image.
+fn is_whole(draft: Option<Draft>, count: usize) -> bool {
+    match &draft {
+        Some(draft) => draft.images.as_slice().len() == 1 && is_of_all(draft, count),
+        None => false,
+    }
+}
+
 #[test]
 fn drops_groups_with_their_heads(rt: HostRuntime) {
     // C is at number 0, which no node has as its struct.
@@ -127,4 +135,11 @@ fn keeps_all_under_its_own_catalogue(rt: HostRuntime) {
     let draft = draft_by(&rt, 1, C);
     let all = [0, 1, 2, 3, 4, 5, 6, 7, 8];
     assert!(rt; is_draft(draft, &all, &[1, 2, 3, 4, 5, 6, 7, 8, 9]));
+}
+
+#[test]
+fn tells_drafts_of_all_nodes(rt: HostRuntime) {
+    assert!(rt; is_whole(draft_by(&rt, 1, C), 9));
+    assert!(rt; !is_whole(draft_by(&rt, 1, C), 8));
+    assert!(rt; !is_whole(draft_by(&rt, C, D), 9));
 }

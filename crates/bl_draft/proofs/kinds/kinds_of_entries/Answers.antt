@@ -1,40 +1,34 @@
-use Rattle.std.proofs.Common.{length, ◌∙◌}
-use Rattle.bl_file.specs.Outlines.{StandsFor}
+use Rattle.std.proofs.Common.{◌≡◌, ℕ, sym, subst, ◌∙◌}
+use Rattle.std.specs.Prelude.{All}
+use Rattle.std.proofs.lemmas.Result.{IfOk-weaker}
+use Rattle.bl_file.specs.Held.{IsHeldAnd}
+use Rattle.bl_file.specs.Outlines.{IsNodeIn}
+use Rattle.bl_file.specs.Seen.{kinds_seen, views_seen}
 use Rattle.bl_file.proofs.HeldLemmas.{IsHeldAnd-weaker}
-use Rattle.bl_draft.specs.Whole.{IsOfAll}
-use Rattle.bl_draft.proofs.AllNodes.{of_all-nodes, kinds-known, length-known, pairs-known}
-use Rattle.bl_draft.proofs.OwnDrafts.{IsDraftOf-own}
+use Rattle.bl_draft.specs.Targets.{known_names}
+use Rattle.bl_draft.proofs.OutlineFacts.{heads-IsNodeIn, heads-few, kinds-own}
 use Rattle.bl_draft.proofs.kinds.kinds_of_entries.Goals as goal
 
-pub is_of_all-requires : goal.is_of_all-requires
-is_of_all-requires g c = (IsDraftOf-own c.args.outline.now c.args.draft.now c.requires.own).one_row
-
-pub returns-then-is_of_all-clause-len : goal.returns-then-is_of_all-clause-len
-returns-then-is_of_all-clause-len g c =
+pub raw_kinds-requires-clause-nodes : goal.raw_kinds-requires-clause-nodes
+raw_kinds-requires-clause-nodes g c =
     let o = c.args.outline.now in
-    let d = c.args.draft.now in
-    let all : IsOfAll (length o.nodes) d =
-    of_all-nodes o d c.as_slice.result.now c.as_slice.ensures (c.is_of_all.ensures c.if-is_of_all.true) in
-    length-known o d c.in_ok-copied.field-0.items c.requires.sound all
-    (c.in_ok-copied.ensures ∙ c.as_slice-then-is_of_all.ensures)
+    let heads = c.args.heads.now in
+    subst (λ (size : ℕ). All (IsNodeIn o.header o.layout.catalogue size) heads) (sym c.requires.size)
+    (heads-IsNodeIn o c.args.draft.now heads c.requires.sound c.requires.own c.requires.heads)
 
-pub returns-then-is_of_all-clause-kinds : goal.returns-then-is_of_all-clause-kinds
-returns-then-is_of_all-clause-kinds g c =
+pub raw_kinds-requires-clause-few : goal.raw_kinds-requires-clause-few
+raw_kinds-requires-clause-few g c =
+    heads-few c.args.outline.now c.args.draft.now c.args.heads.now c.requires.own c.requires.heads
+
+pub returns-clause-kinds : goal.returns-clause-kinds
+returns-clause-kinds g c =
     let o = c.args.outline.now in
-    let d = c.args.draft.now in
-    let all : IsOfAll (length o.nodes) d =
-    of_all-nodes o d c.as_slice.result.now c.as_slice.ensures (c.is_of_all.ensures c.if-is_of_all.true) in
+    let heads = c.args.heads.now in
+    let names = known_names c.args.targets.now in
     let told = g.S.Shelf.told c.args.shelf.now in
     let name = g.P.Payload.file_name c.args.payload.now in
-    IsHeldAnd-weaker told name (λ b. g.P.Payload.agrees c.args.payload.now b × StandsFor b o) _ c.requires.held
-    (λ b is. kinds-known o b d c.in_ok-copied.field-0.items c.requires.sound c.requires.own all
-    (c.in_ok-copied.ensures ∙ c.as_slice-then-is_of_all.ensures) is.1)
-
-pub returns-then-is_of_all-clause-pairs : goal.returns-then-is_of_all-clause-pairs
-returns-then-is_of_all-clause-pairs g c =
-    let o = c.args.outline.now in
-    let d = c.args.draft.now in
-    let all : IsOfAll (length o.nodes) d =
-    of_all-nodes o d c.as_slice.result.now c.as_slice.ensures (c.is_of_all.ensures c.if-is_of_all.true) in
-    pairs-known o d c.args.heads.now c.in_ok-copied.field-0.items c.requires.sound all c.requires.heads
-    (c.in_ok-copied.ensures ∙ c.as_slice-then-is_of_all.ensures)
+    IfOk-weaker c.raw_kinds.result
+    (λ kinds. IsHeldAnd told name (λ b. kinds.items ≡ kinds_seen heads (views_seen names o.header o.layout.catalogue heads b))) _
+    (λ kinds held. IsHeldAnd-weaker told name _ _ held
+    (λ b is. is ∙ kinds-own o c.args.draft.now names heads b c.requires.sound c.requires.own c.requires.heads c.requires.names))
+    c.raw_kinds.ensures.kinds
