@@ -1,12 +1,29 @@
-use Rattle.std.proofs.Common.{◌≡◌, ◌<◌, ◌∙◌, ℕ, List, All, refl, sym, ap, subst, length}
+use Rattle.std.proofs.Common.{◌≡◌, ◌∙◌, List, arith, refl, sym, ap, subst, length}
 use Rattle.std.proofs.lemmas.Result.{IfOk-weaker, on_ok_weaker}
+use Rattle.bl_format.specs.declared.file.Head.{Head}
 use Rattle.bl_format.specs.declared.raw.RawKind.{RawKind}
 use Rattle.bl_file.specs.Held.{IsHeldAnd}
+use Rattle.bl_file.specs.Outlines.{ArePairsLong}
 use Rattle.bl_draft.specs.Own.{entry_kinds, outlined}
+use Rattle.bl_draft.proofs.OwnDrafts.{IsDraftOf-own}
 use Rattle.bl_writer.specs.declared.output.Output.{Output}
 use Rattle.bl_writer.specs.Outputs.{ArePlans}
-use Rattle.bl_writer.proofs.DraftForm.{draft_staged, draft_bytes}
+use Rattle.bl_writer.proofs.DraftForm.{output_of, draft_staged, draft_bytes}
 use Rattle.bl_writer.proofs.staging.render_few.Goals as goal
+
+pub is_of_all-requires : goal.is_of_all-requires
+is_of_all-requires g c = (IsDraftOf-own c.args.outline.now c.args.draft.now c.requires.own).one_row
+
+pub render_output-requires-clause-output : goal.render_output-requires-clause-output
+render_output-requires-clause-output g c =
+    let heads = c.in-Ok.heads.items in
+    let kinds = c.in_ok-kinds.kinds.items in
+    let pairs : ArePairsLong heads c.deref-3.result.now =
+    subst (ArePairsLong heads) (sym c.deref-3.ensures.value)
+    (subst (λ (xs : List Head). ArePairsLong xs kinds) c.deref.ensures.value c.in_ok-kinds.ensures.pairs) in
+    output_of c.args.outline.now heads _ _ c.requires.sound refl refl c.deref-2.ensures.value
+    (omega (arith, c.in-Ok.ensures.len, c.requires.few)) (c.in_ok-kinds.ensures.size ∙ c.requires.size) c.in-Ok.ensures.nodes
+    (ap (λ (ks : List RawKind). length ks) c.deref-3.ensures.value ∙ c.in_ok-kinds.ensures.len ∙ sym c.in-Ok.ensures.len) pairs
 
 pub render_output-requires-clause-plans : goal.render_output-requires-clause-plans
 render_output-requires-clause-plans g c =
