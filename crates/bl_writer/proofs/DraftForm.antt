@@ -1,6 +1,6 @@
 -- What is staged of an output of a draft is the written form of the draft's selection.
 use Rattle.std.proofs.Common.{◌≡◌, ℕ, ◌≤◌, ◌<◌, All, List, [], ◌∷◌, ◌++◌, length, Option, option_map, sym, ap, subst, ◌∙◌}
-use Rattle.std.specs.Prelude.{map, flat_map}
+use Rattle.std.specs.Prelude.{flat_map}
 use Rattle.std.proofs.lemmas.List.{length-map}
 use Rattle.bl_format.specs.declared.file.Header.{Header}
 use Rattle.bl_format.specs.declared.file.Head.{Head}

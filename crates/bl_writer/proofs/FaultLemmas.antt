@@ -1,9 +1,8 @@
 -- What is so of a shelf's fault is so of the fault of a draft that isn't rendered.
-use Rattle.std.proofs.Common.{◌≡◌, ℕ, Result, Ok, Err, refl, ap}
+use Rattle.std.proofs.Common.{◌≡◌, ℕ, Err, refl}
 use Rattle.bl_shelf.specs.declared.shelf.ShelfFault.{ShelfFault}
 use Rattle.bl_shelf.specs.declared.shelf.ShelfFault.TheVariants as shelf
 use Rattle.bl_shelf.specs.Causes.{HasCause, HasRisen}
-use Rattle.bl_writer.specs.declared.fault.WriteFault.{WriteFault}
 use Rattle.bl_writer.specs.declared.fault.WriteFault.TheVariants as faults
 use Rattle.bl_writer.specs.Faults.{fault_of_shelf, IsRefusal, BlamesRisen, HasWriteCause}
 

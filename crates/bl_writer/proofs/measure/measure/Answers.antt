@@ -1,4 +1,4 @@
-use Rattle.std.proofs.Common.{◌≤◌, ◌<◌, ap, arith}
+use Rattle.std.proofs.Common.{◌≤◌, ◌<◌, arith}
 use Rattle.std.specs.Prelude.{length}
 use Rattle.bl_writer.specs.Outputs.{output_length, output_scratch}
 use Rattle.bl_format.specs.Limits.{most_input_bytes}

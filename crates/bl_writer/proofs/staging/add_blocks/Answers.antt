@@ -1,4 +1,4 @@
-use Rattle.std.proofs.Common.{◌+◌, ◌≤◌, ℕ, List, length, refl, sym, ap, subst, ◌∙◌, arith}
+use Rattle.std.proofs.Common.{◌+◌, ◌≤◌, ℕ, List, length, refl, sym, subst, ◌∙◌, arith}
 use Rattle.bl_file.specs.Held.{IsHeldAnd}
 use Rattle.bl_writer.specs.Outputs.{block_bytes, output_length, outputs_length}
 use Rattle.bl_writer.specs.Rendering.{Takes}
