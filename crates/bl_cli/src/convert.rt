@@ -17,7 +17,7 @@ use crate::files::commit;
 use crate::opened::open_input;
 use bl_commands::Ending;
 use bl_draft::{Draft, whole_draft};
-use bl_file::{Opened, WholePayload};
+use bl_file::{Opened, PagedPayload};
 use bl_layout::copy_of;
 use bl_lines::summary_line;
 use bl_num::NoMemory;
@@ -58,7 +58,7 @@ fn stage_conversion<S: Shelf>(
     ensures spelled { IfErr result IsNotUsage }
     ensures named { IfErr result (NamesInput input.now) }
 {
-    let file = match open_input::<S, WholePayload>(alloc, input, shelf) {
+    let file = match open_input::<S, PagedPayload>(alloc, input, shelf) {
         Ok(file) => file,
         Err(ending) => return Err(ending),
     };

@@ -14,7 +14,7 @@ use crate::catalogue_names::{member_name, member_type_name, struct_name};
 use crate::opened::open_input;
 use crate::printing::{add_line, put};
 use bl_commands::Ending;
-use bl_file::WholePayload;
+use bl_file::PagedPayload;
 use bl_format::Catalogue;
 use bl_header::Header;
 use bl_layout::Layout;
@@ -205,7 +205,7 @@ pub fn schema<S: Shelf, O: Sink>(
     ensures spelled { IfErr result IsNotUsage }
     ensures named { IfErr result (NamesInput input.now) }
 {
-    match open_input::<S, WholePayload>(alloc, input, shelf) {
+    match open_input::<S, PagedPayload>(alloc, input, shelf) {
         Err(ending) => Err(ending),
         Ok(file) => print_schema(alloc, &file.outline.header, &file.outline.layout, out),
     }
