@@ -7,6 +7,8 @@ pub mod LeafCopies
 pub mod LaidOutCopies
 pub mod LayoutLeaves
 pub mod StepLaws
+pub mod StepOrder
+pub mod Rewrites
 pub mod PlanLaws
 pub mod Renderings
 pub mod OutputForm

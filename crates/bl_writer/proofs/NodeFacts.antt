@@ -112,16 +112,16 @@ written_length-le o kind x none =
 
 -- ---- raw nodes
 
-scratch_by : (index : ℕ) (kind : RawKind) (len other : ℕ) → index ≡ 0 → holds_pointers kind ≡ true → cond (index == 0) (raw_scratch kind len) other ≡ len
+scratch_by : (index : ℕ) (kind : RawKind) (len : ℕ) → index ≡ 0 → holds_pointers kind ≡ true → cond (index == 0) (raw_scratch kind len) 0 ≡ len
 unfolding holds_pointers
-scratch_by index Bytes len other raw is = absurd (cc)
-scratch_by index (Numbers n) len other raw is = absurd (cc)
-scratch_by index Pointers len other raw is = rw raw refl
-scratch_by index Pair len other raw is = absurd (cc)
+scratch_by index Bytes len raw is = absurd (cc)
+scratch_by index (Numbers n) len raw is = absurd (cc)
+scratch_by index Pointers len raw is = rw raw refl
+scratch_by index Pair len raw is = absurd (cc)
 
 -- pointers are read whole
-pub pointers_scratch : (o : Output) (kind : RawKind) (x : Head) → x.index ≡ 0 → holds_pointers kind ≡ true → scratch_of o kind x ≡ x.len
-pointers_scratch o kind x raw is = scratch_by x.index kind x.len (struct_length o.layout.now.catalogue x.index) raw is
+pub pointers_scratch : (kind : RawKind) (x : Head) → x.index ≡ 0 → holds_pointers kind ≡ true → scratch_of kind x ≡ x.len
+pointers_scratch kind x raw is = scratch_by x.index kind x.len raw is
 
 length_of_pointers : (index : ℕ) (kind : RawKind) (len other : ℕ) (w : Width) → index ≡ 0 → holds_pointers kind ≡ true
     → cond (index == 0) (raw_length kind len w w) other ≡ raw_length Pointers len w w

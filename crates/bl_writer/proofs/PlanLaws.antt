@@ -10,15 +10,15 @@ use Rattle.bl_format.specs.Layout.{HasLayout, leaves_of, struct_length}
 use Rattle.bl_writer.specs.declared.plans.Plan.{Plan}
 use Rattle.bl_writer.specs.declared.plans.Step.{Step}
 use Rattle.bl_writer.specs.Image.{with_leaves}
-use Rattle.bl_writer.specs.Plans.{StepFits, CopiesLeaves, IsPlanOf, no_plan}
+use Rattle.bl_writer.specs.Plans.{StepFits, AreInOrder, CopiesLeaves, IsPlanOf, no_plan}
 use Rattle.bl_writer.proofs.LaidOutCopies.{leaves_written}
 
 -- steps that copy the leaves of a struct are its plan
 pub plan_made : (c : Catalogue) (w : Width) (s n : ℕ) (leaves : List Leaf) (steps : List Step)
     → HasLayout c w → leaves ≡ leaves_of c w s → n ≡ struct_length c s
-    → All (StepFits n) steps → CopiesLeaves n leaves steps → IsPlanOf c w s (record { steps = steps })
-plan_made c w s n leaves steps has are is fits copies = record {
-  fits = record { steps = subst (λ (m : ℕ). All (StepFits m) steps) is fits };
+    → All (StepFits n) steps → AreInOrder 0 steps → CopiesLeaves n leaves steps → IsPlanOf c w s (record { steps = steps })
+plan_made c w s n leaves steps has are is fits apart copies = record {
+  fits = record { steps = subst (λ (m : ℕ). All (StepFits m) steps) is fits; apart = apart };
   copies = λ names order src read all.
       let long : length src ≡ n = read ∙ sym is in
       copies names order src (zeros (length src)) long all (length-replicate {A = ℕ} (length src) 0 ∙ long)

@@ -1,8 +1,8 @@
 -- Steps copy what the leaves hold of which they are made, each alone and joined.
-use Rattle.std.proofs.Common.{◌≡◌, ℕ, zero, suc, ◌+◌, ◌*◌, ◌≤◌, ◌<◌, Bool, true, false, All, List, [], ◌∷◌, ◌++◌, length, take, drop, Some, None, refl, sym, ap, subst, ◌∙◌, arith, eqb-true, mul-le-mul_right, drop_of_length-le}
+use Rattle.std.proofs.Common.{◌≡◌, ℕ, zero, suc, ◌+◌, ◌*◌, ◌≤◌, ◌<◌, Bool, true, false, All, List, [], ◌∷◌, ◌++◌, length, take, drop, Some, None, refl, sym, ap, subst, ◌∙◌, arith, eqb-true, mul-le-mul_right}
 use Rattle.std.specs.Prelude.{◌==◌, ◌&&◌, if◌then◌else◌, get_or}
 use Rattle.std.proofs.Math.Nat.{add-mul}
-use Rattle.std.proofs.lemmas.List.{length-append, length-take-le, length-drop, drop_more}
+use Rattle.std.proofs.lemmas.List.{length-append, length-take-le, length-drop}
 use Rattle.std.proofs.lemmas.List.Elements.{All-push, All-nil, All-head, All-tail}
 use Rattle.bl_num.specs.declared.number.Order.{Order}
 use Rattle.bl_num.specs.Numbers.{IsWholeLength, number_of, bytes_of}
@@ -25,12 +25,12 @@ use Rattle.bl_writer.proofs.LaidOutCopies.{with_leaves-next, with_leaves-end}
 -- ---- lengths
 
 -- a part that is replaced by as many bytes leaves them as long
-length-replaced_at : (at : ℕ) (new dst : List ℕ) → at + length new ≤ length dst → length (replaced_at at new dst) ≡ length dst
+pub length-replaced_at : (at : ℕ) (new dst : List ℕ) → at + length new ≤ length dst → length (replaced_at at new dst) ≡ length dst
 length-replaced_at at new dst le =
     omega (arith, le, length-append (take at dst) (new ++ drop (at + length new) dst), length-append new (drop (at + length new) dst), length-take-le at dst (omega (arith, le)), length-drop (at + length new) dst)
 
 -- pointer k of some ends where they all end, or before
-slot_inside : (at size count k n : ℕ) → at + count * size ≤ n → k < count → (at + k * size) + size ≤ n
+pub slot_inside : (at size count k n : ℕ) → at + count * size ≤ n → k < count → (at + k * size) + size ≤ n
 slot_inside at size count k n fits lt =
     let next : suc k * size ≤ count * size = mul-le-mul_right size (omega (arith, lt)) in
     let sum : suc k * size ≡ k * size + size = omega arith in
@@ -162,7 +162,7 @@ slots_behind names order src at size c d m (suc n) dst =
     ∙ ap (with_one names order src size (at + m * size + n * size)) (slots_behind names order src at size c d m n dst)
 
 -- what a test lets through
-let_through : {A : Type 0} (t : Bool) (x y : A) → (if t then Some x else None) ≡ Some y → (t ≡ true) × (x ≡ y)
+pub let_through : {A : Type 0} (t : Bool) (x y : A) → (if t then Some x else None) ≡ Some y → (t ≡ true) × (x ≡ y)
 let_through true x y is = (refl, cc)
 let_through false x y is = absurd (cc)
 
@@ -186,7 +186,8 @@ joined_runs-both n a b c is first second =
           ∙ ap (λ (p : ℕ). replaced_at p (part src p b.len) (with_run src a dst)) end,
     )
 
-two_hold : (p q : Bool) → (p && q) ≡ true → (p ≡ true) × (q ≡ true)
+-- two tests that hold together
+pub two_hold : (p q : Bool) → (p && q) ≡ true → (p ≡ true) × (q ≡ true)
 two_hold true q is = (refl, is)
 two_hold false q is = absurd (cc)
 
@@ -231,23 +232,6 @@ with_steps-last : (names : Naming Target) (order : Order) (src : List ℕ) (xs :
     → with_steps names order src (xs ++ x ∷ []) dst ≡ with_step names order src x (with_steps names order src xs dst)
 unfolding with_steps
 with_steps-last names order src xs x dst = with_steps-append names order src xs (x ∷ []) dst
-
--- the first step of those that are left
-pub with_steps-next : (names : Naming Target) (order : Order) (src : List ℕ) (xs : List Step) (i : ℕ) (d : Step) (dst new all : List ℕ)
-    → i < length xs
-    → with_steps names order src (drop i xs) dst ≡ all → new ≡ with_step names order src (get_or xs i d) dst
-    → with_steps names order src (drop (i + 1) xs) new ≡ all
-unfolding with_steps
-with_steps-next names order src xs i d dst new all lt left copied =
-    ap (with_steps names order src (drop (i + 1) xs)) copied
-    ∙ sym (ap (λ (ys : List Step). with_steps names order src ys dst) (drop_more xs i d lt)) ∙ left
-
--- no step is left
-pub with_steps-end : (names : Naming Target) (order : Order) (src : List ℕ) (xs : List Step) (i : ℕ) (dst all : List ℕ)
-    → length xs ≤ i → with_steps names order src (drop i xs) dst ≡ all → dst ≡ all
-unfolding with_steps
-with_steps-end names order src xs i dst all le left =
-    sym (ap (λ (ys : List Step). with_steps names order src ys dst) (drop_of_length-le xs le)) ∙ left
 
 -- one pointer more
 pub with_slots-next : (names : Naming Target) (order : Order) (src : List ℕ) (x : Slots) (k address image : ℕ) (old dst new : List ℕ)

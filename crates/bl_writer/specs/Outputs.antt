@@ -68,14 +68,14 @@ raw_scratch (Numbers n) len = 0
 raw_scratch Pointers len = len
 raw_scratch Pair len = 0
 
--- the bytes of what is read of a node at once, by its kind and its head: an element of its struct, or its pointers
-abbrev pub scratch_of : Output → RawKind → Head → ℕ
-scratch_of o kind x =
-    if x.index == 0 then raw_scratch kind x.len else struct_length o.layout.now.catalogue x.index
+-- the bytes of a node that are read before they are written, by its kind and its head; elements of a struct are read where
+-- they are written
+abbrev pub scratch_of : RawKind → Head → ℕ
+scratch_of kind x = if x.index == 0 then raw_scratch kind x.len else 0
 
 -- the same of node k
 abbrev pub output_scratch : Output → ℕ → ℕ
-output_scratch o k = scratch_of o (output_kind o k) (output_head o k)
+output_scratch o k = scratch_of (output_kind o k) (output_head o k)
 
 -- the payload of a node as it is written, by its kind, its head and the source's bytes, where addresses name this
 abbrev pub payload_bytes : Naming Target → Output → List ℕ → RawKind → Head → List ℕ
@@ -104,7 +104,7 @@ outputs_length o (suc k) = outputs_length o k + output_length o k
 abbrev pub OutputFits : Output → ℕ → Type 0
 OutputFits o n = (k : ℕ) → k < length o.nodes.now → output_length o k ≤ n
 
--- no more bytes are read at once of any node
+-- no more bytes are read of any node before they are written
 abbrev pub OutputScratchFits : Output → ℕ → Type 0
 OutputScratchFits o n = (k : ℕ) → k < length o.nodes.now → output_scratch o k ≤ n
 

@@ -1,11 +1,11 @@
 -- What an element becomes that is copied by a plan, when a plan is that of a struct, and how plans are made of leaves.
-use Rattle.std.specs.Prelude.{◌≡◌, ◌≤◌, ◌<◌, ℕ, zero, suc, ◌+◌, ◌*◌, ◌==◌, ◌&&◌, if◌then◌else◌, All, List, [], ◌∷◌, length, Option, Some, None}
+use Rattle.std.specs.Prelude.{◌≡◌, ◌≤◌, ◌<◌, ℕ, zero, suc, ◌+◌, ◌-◌, ◌*◌, ◌==◌, ◌&&◌, if◌then◌else◌, All, List, [], ◌∷◌, length, flat_map, Option, Some, None, ⊤}
 use Rattle.bl_num.specs.declared.number.Order.{Order}
 use Rattle.bl_num.specs.declared.number.Width.{Width}
 use Rattle.bl_num.specs.Numbers.{IsWholeLength, number_of, bytes_of}
 use Rattle.bl_format.specs.declared.catalogue.Catalogue.{Catalogue}
 use Rattle.bl_format.specs.declared.layout.Leaf.{Leaf}
-use Rattle.bl_format.specs.Words.{part, zeros}
+use Rattle.bl_format.specs.Words.{part, zeros, numbers_below}
 use Rattle.bl_format.specs.Layout.{named_leaves, struct_length}
 use Rattle.bl_format.specs.Graph.{Target, Naming, fields, struct_cells}
 use Rattle.bl_selection.specs.Written.{element_written, address_of}
@@ -48,18 +48,42 @@ unfoldable pub with_steps : Naming Target → Order → List ℕ → List Step �
 with_steps names order src [] dst = dst
 with_steps names order src (x ∷ xs) dst = with_steps names order src xs (with_step names order src x dst)
 
+-- some bytes with zeros from one place to another
+abbrev pub cleared : ℕ → ℕ → List ℕ → List ℕ
+cleared from to bytes = replaced_at from (zeros (to - from)) bytes
+
 -- an element that is copied by a plan
 abbrev pub planned : Plan → Naming Target → Order → List ℕ → List ℕ
 planned p names order src = with_steps names order src p.steps (zeros (length src))
+
+-- the first n elements of so many bytes, each copied by a plan
+abbrev pub all_planned : Plan → Naming Target → Order → ℕ → ℕ → List ℕ → List ℕ
+all_planned p names order len n src = flat_map (λ e. planned p names order (part src (e * len) len)) (numbers_below n)
 
 -- what a step copies stands in so many bytes, and its pointers are as long as numbers
 abbrev pub StepFits : ℕ → Step → Type 0
 StepFits n (kinds.Bytes x) = x.at + x.len ≤ n
 StepFits n (kinds.Pointers x) = (x.at + x.count * x.size ≤ n) × IsWholeLength x.size
 
--- the same of all steps of a plan
+-- where a step begins in an element
+unfoldable pub step_start : Step → ℕ
+step_start (kinds.Bytes x) = x.at
+step_start (kinds.Pointers x) = x.at
+
+-- where it ends
+unfoldable pub step_end : Step → ℕ
+step_end (kinds.Bytes x) = x.at + x.len
+step_end (kinds.Pointers x) = x.at + x.count * x.size
+
+-- from a place on, some steps stand one behind another
+abbrev pub AreInOrder : ℕ → List Step → Type 0
+AreInOrder from [] = ⊤
+AreInOrder from (x ∷ xs) = (from ≤ step_start x) × AreInOrder (step_end x) xs
+
+-- all steps of a plan fit in so many bytes, and stand one behind another
 pub record PlanFits (n : ℕ) (p : Plan) : Type 0 where
   pub steps : All (StepFits n) p.steps
+  pub apart : AreInOrder 0 p.steps
 
 -- a plan is that of struct s: each value stays as it is, and each pointer is the address of what it names
 pub record IsPlanOf (c : Catalogue) (w : Width) (s : ℕ) (p : Plan) : Type 0 where

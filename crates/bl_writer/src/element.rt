@@ -3,9 +3,9 @@ ghost use Rattle.bl_num.specs.Numbers.{IsWholeLength, number_of, bytes_of};
 ghost use Rattle.bl_format.specs.Words.{part};
 ghost use Rattle.bl_selection.specs.Written.{address_of};
 ghost use Rattle.bl_members.specs.Leaf.{replaced_at};
-ghost use Rattle.bl_writer.specs.Plans.{PlanFits, StepFits, planned, with_run, with_slots, with_step};
+ghost use Rattle.bl_writer.specs.Plans.{PlanFits, StepFits, all_planned, cleared, planned, step_end, step_start, with_slots, with_step};
 
-use crate::plans::{Plan, Run, Slots, Step};
+use crate::plans::{Plan, Slots, Step};
 use bl_num::{Order, read_whole, write_whole};
 use bl_ptrarrays::Images;
 
@@ -17,60 +17,111 @@ pub fn copy_element<I: Images>(plan: &Plan, order: Order, src: &[u8], images: &I
     ensures copied { dst.new ≡ planned plan.now (I.names images.now) order src.now }
     ensures length { length dst.new ≡ length dst.old }
 {
-    dst.fill(0);
-    let null = images.image(0);
-    let steps = plan.steps.as_slice();
-    for step in steps {
-        take_step(*step, order, src, images, null, dst);
+    dst.copy_from_slice(src);
+    rewrite_element(plan, order, images, dst);
+}
+
+/// Makes of so many elements of a struct, each of so many bytes and where it stands, what the plan
+/// makes of them.
+pub(crate) fn rewrite_elements<I: Images>(
+    plan: &Plan,
+    order: Order,
+    len: usize,
+    count: u32,
+    images: &I,
+    dst: &mut [u8],
+)
+    requires fits { PlanFits len plan.now }
+    requires dst { length dst.old ≡ count * len }
+    ensures rewritten { dst.new ≡ all_planned plan.now (I.names images.now) order len count dst.old }
+    ensures length { length dst.new ≡ length dst.old }
+{
+    for element in 0..count as usize {
+        let (_, rest) = dst.split_at_mut(element * len);
+        let (own, _) = rest.split_at_mut(len);
+        rewrite_element(plan, order, images, own);
     }
 }
 
-// Takes one step. The image of null is known.
+// The same of one element.
+fn rewrite_element<I: Images>(plan: &Plan, order: Order, images: &I, dst: &mut [u8])
+    requires fits { PlanFits (length dst.old) plan.now }
+    ensures rewritten { dst.new ≡ planned plan.now (I.names images.now) order dst.old }
+    ensures length { length dst.new ≡ length dst.old }
+{
+    let null = images.image(0);
+    let mut done = 0;
+    let steps = plan.steps.as_slice();
+    for step in steps {
+        clear(done, step_start(*step), dst);
+        rewrite_step(*step, order, images, null, dst);
+        done = step_end(*step);
+    }
+    clear(done, dst.len(), dst);
+}
+
+// Where a step begins in an element.
+#[tactic(auto, unfolding(crate::specs::Plans::step_start))]
+fn step_start(step: Step) -> usize
+    ensures { result ≡ step_start step }
+{
+    match step {
+        Step::Bytes(run) => run.at as usize,
+        Step::Pointers(slots) => slots.at as usize,
+    }
+}
+
+// Where a step ends.
+#[tactic(auto, unfolding(crate::specs::Plans::step_end))]
+fn step_end(step: Step) -> usize
+    ensures { result ≡ step_end step }
+{
+    match step {
+        Step::Bytes(run) => run.at as usize + run.len as usize,
+        Step::Pointers(slots) => slot_place(slots, slots.count),
+    }
+}
+
+// Puts zeros from one place to another.
+fn clear(from: usize, to: usize, dst: &mut [u8])
+    requires order { from ≤ to }
+    requires inside { to ≤ length dst.old }
+    ensures cleared { dst.new ≡ cleared from to dst.old }
+    ensures length { length dst.new ≡ length dst.old }
+{
+    if from < to {
+        let (_, rest) = dst.split_at_mut(from);
+        let (own, _) = rest.split_at_mut(to - from);
+        own.fill(0);
+    }
+}
+
+// Takes one step where the bytes stand that it is to copy: those of a run stay. The image of null is
+// known.
 #[tactic(auto, unfolding(crate::specs::Plans::with_step))]
-fn take_step<I: Images>(step: Step, order: Order, src: &[u8], images: &I, null: u64, dst: &mut [u8])
-    requires fits { StepFits (length src.now) step }
+fn rewrite_step<I: Images>(step: Step, order: Order, images: &I, null: u64, dst: &mut [u8])
+    requires fits { StepFits (length dst.old) step }
     requires null { null ≡ address_of (I.names images.now 0) }
-    requires dst { length dst.old ≡ length src.now }
-    ensures copied { dst.new ≡ with_step (I.names images.now) order src.now step dst.old }
+    ensures rewritten { dst.new ≡ with_step (I.names images.now) order dst.old step dst.old }
     ensures length { length dst.new ≡ length dst.old }
 {
     match step {
-        Step::Bytes(run) => copy_run(run, src, dst),
-        Step::Pointers(slots) => copy_slots(slots, order, src, images, null, dst),
+        Step::Bytes(_) => {}
+        Step::Pointers(slots) => rewrite_slots(slots, order, images, null, dst),
     }
 }
 
-// Copies bytes as they are.
-fn copy_run(run: Run, src: &[u8], dst: &mut [u8])
-    requires fits { run.at + run.len ≤ length src.now }
-    requires dst { length dst.old ≡ length src.now }
-    ensures copied { dst.new ≡ with_run src.now run dst.old }
-    ensures length { length dst.new ≡ length dst.old }
-{
-    let (_, rest) = dst.split_at_mut(run.at as usize);
-    let (own, _) = rest.split_at_mut(run.len as usize);
-    own.copy_from_slice(&src[run.at as usize..][..run.len as usize]);
-}
-
-// Writes the address in the output for each of some pointers.
-fn copy_slots<I: Images>(
-    slots: Slots,
-    order: Order,
-    src: &[u8],
-    images: &I,
-    null: u64,
-    dst: &mut [u8],
-)
-    requires fits { slots.at + slots.count * slots.size ≤ length src.now }
+// Writes for each of some pointers the address in the output in its place.
+fn rewrite_slots<I: Images>(slots: Slots, order: Order, images: &I, null: u64, dst: &mut [u8])
+    requires fits { slots.at + slots.count * slots.size ≤ length dst.old }
     requires number { IsWholeLength slots.size }
     requires null { null ≡ address_of (I.names images.now 0) }
-    requires dst { length dst.old ≡ length src.now }
-    ensures copied { dst.new ≡ with_slots (I.names images.now) order src.now slots slots.count
+    ensures rewritten { dst.new ≡ with_slots (I.names images.now) order dst.old slots slots.count
         dst.old }
     ensures length { length dst.new ≡ length dst.old }
 {
     for k in 0..slots.count {
-        let address = read_slot(slots, order, src, k);
+        let address = read_slot(slots, order, dst, k);
         write_slot(slots, order, k, image_of(images, null, address), dst);
     }
 }

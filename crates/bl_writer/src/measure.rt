@@ -6,7 +6,8 @@ ghost use Rattle.bl_writer.specs.Outputs.{IsOutput, outputs_length, OutputFits, 
 use crate::nodes::{output_length, output_scratch};
 use crate::output::Output;
 
-/// The bytes of all blocks together, of the longest, and the most that is read of a node at once.
+/// The bytes of all blocks together, of the longest, and the most that is read of a node before it is
+/// written.
 #[derive(Clone, Copy)]
 pub struct Lengths {
     pub blocks: u64,

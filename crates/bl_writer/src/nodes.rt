@@ -87,23 +87,22 @@ fn raw_scratch(kind: RawKind, len: u64) -> u64
     }
 }
 
-// The bytes of what is read of a node at once, by its kind and its head.
-fn scratch_of(output: &Output, kind: RawKind, head: Head) -> u64
-    requires { IsNodeIn output.now.header output.now.layout.now.catalogue most_input_bytes head }
-    ensures { result ≡ scratch_of output.now kind head }
+// The bytes of a node that are read before they are written, by its kind and its head.
+fn scratch_of(kind: RawKind, head: Head) -> u64
+    ensures { result ≡ scratch_of kind head }
 {
     if head.index == 0 {
         raw_scratch(kind, head.len)
     } else {
-        u64::from(output.layout.length(head.index))
+        0
     }
 }
 
-/// The bytes of what is read of a node at once.
+/// The bytes of a node that are read before they are written.
 pub(crate) fn output_scratch(output: &Output, k: u32) -> u64
     requires output { IsOutput output.now most_input_bytes }
     requires k { k < length output.now.nodes.now }
     ensures { result ≡ output_scratch output.now k }
 {
-    scratch_of(output, kind_at(output, k), head_at(output, k))
+    scratch_of(kind_at(output, k), head_at(output, k))
 }

@@ -10,7 +10,7 @@ ghost use Rattle.bl_writer.specs.Outputs.{ArePlans, written_length, scratch_of, 
 ghost use Rattle.bl_writer.specs.Payloads.{payload_place, elements_image, pointers_image, raw_image};
 ghost use Rattle.bl_writer.specs.Plans.{IsPlanOf};
 
-use crate::element::copy_element;
+use crate::element::rewrite_elements;
 use crate::nodes::{holds_pointers, payload_place};
 use crate::output::Output;
 use crate::plans::Plan;
@@ -20,21 +20,21 @@ use bl_num::Form;
 use bl_ptrarrays::{Images, carry_raw};
 use bl_shelf::{Shelf, ShelfFault};
 
-// Writes all elements of a struct node. Each is read into `scratch` and copied from there.
+// Writes all elements of a struct node. They are read where they are written, and rewritten there.
 fn write_elements<I: Images, S: Shelf, P: Payload>(
     output: &Output,
     plan: &Plan,
     head: Head,
+    len: usize,
     images: &I,
     payload: &mut P,
     shelf: &mut S,
-    scratch: &mut [u8],
     dst: &mut [u8],
 ) -> Result<(), ShelfFault>
     requires layout { HasLayout output.now.layout.now.catalogue output.now.layout.now.width }
     requires plan { IsPlanOf output.now.layout.now.catalogue output.now.layout.now.width head.index
         plan.now }
-    requires scratch { length scratch.old ≡ struct_length output.now.layout.now.catalogue head.index }
+    requires len { len ≡ struct_length output.now.layout.now.catalogue head.index }
     requires dst { length dst.old
         ≡ head.count * struct_length output.now.layout.now.catalogue head.index }
     requires inside { payload_place output.now.header head + length dst.old
@@ -46,7 +46,6 @@ fn write_elements<I: Images, S: Shelf, P: Payload>(
         output.now.layout.now.catalogue output.now.layout.now.width head.index
         (payload_place output.now.header head) head.count b)) }
     ensures length { length dst.new ≡ length dst.old }
-    ensures scratch { length scratch.new ≡ length scratch.old }
     ensures name { P.file_name payload.new ≡ P.file_name payload.old }
     ensures size { P.file_size payload.new ≡ P.file_size payload.old }
     ensures agrees { IsHeldAnd (S.told shelf.old) (P.file_name payload.old)
@@ -58,17 +57,11 @@ fn write_elements<I: Images, S: Shelf, P: Payload>(
     ensures absent { IsErrOf result ShelfFault.Absent → S.told shelf.old ≡ None }
     ensures no_memory { result ≢ Err ShelfFault.NoMemory }
 {
-    let len = scratch.len();
     if len == 0 {
         return Ok(());
     }
-    let at = payload_place(output, head);
-    for element in 0..head.count as usize {
-        payload.copy_out(shelf, at + (element * len) as u64, scratch)?;
-        let (_, rest) = dst.split_at_mut(element * len);
-        let (own, _) = rest.split_at_mut(len);
-        copy_element(plan, output.header.order, scratch, images, own);
-    }
+    payload.copy_out(shelf, payload_place(output, head), dst)?;
+    rewrite_elements(plan, output.header.order, len, head.count, images, dst);
     Ok(())
 }
 
@@ -130,7 +123,7 @@ fn write_raw<I: Images, S: Shelf, P: Payload>(
     requires raw { head.index ≡ 0 }
     requires small { P.file_size payload.old < 2 ^ 63 }
     requires held { IsHeldAnd (S.told shelf.old) (P.file_name payload.old) (P.agrees payload.old) }
-    requires scratch { scratch_of output.now kind head ≤ length scratch.old }
+    requires scratch { scratch_of kind head ≤ length scratch.old }
     requires dst { length dst.old ≡ written_length output.now kind head }
     ensures written { OnOk result (IsHeldAnd (S.told shelf.old) (P.file_name payload.old)
         (λ b. dst.new ≡ raw_image (I.names images.now) output.now.header kind
@@ -175,7 +168,7 @@ pub(crate) fn write_payload<I: Images, S: Shelf, P: Payload>(
         (P.file_size payload.old) head }
     requires small { P.file_size payload.old < 2 ^ 63 }
     requires held { IsHeldAnd (S.told shelf.old) (P.file_name payload.old) (P.agrees payload.old) }
-    requires scratch { scratch_of output.now kind head ≤ length scratch.old }
+    requires scratch { scratch_of kind head ≤ length scratch.old }
     requires dst { length dst.old ≡ written_length output.now kind head }
     ensures written { OnOk result (IsHeldAnd (S.told shelf.old) (P.file_name payload.old)
         (λ b. dst.new ≡ payload_bytes (I.names images.now) output.now b kind head)) }
@@ -195,7 +188,7 @@ pub(crate) fn write_payload<I: Images, S: Shelf, P: Payload>(
     if head.index == 0 {
         return write_raw(output, head, kind, images, payload, shelf, scratch, dst);
     }
-    let (own, _) = scratch.split_at_mut(output.layout.length(head.index) as usize);
+    let len = output.layout.length(head.index) as usize;
     let plan = &plans[head.index as usize];
-    write_elements(output, plan, head, images, payload, shelf, own, dst)
+    write_elements(output, plan, head, len, images, payload, shelf, dst)
 }

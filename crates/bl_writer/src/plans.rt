@@ -1,9 +1,10 @@
 // How elements of structs are copied.
 ghost use Rattle.std.specs.Prelude.{◌≡◌, ◌<◌, ◌+◌, ◌*◌, ◌-◌, ◌^◌, ℕ, All, IfOk, get_or, length};
 ghost use Rattle.bl_num.specs.Numbers.{IsWholeLength};
+ghost use Rattle.bl_layout.specs.LeafFacts.{AreApart};
 ghost use Rattle.bl_members.specs.Leaf.{FitsIn};
 ghost use Rattle.bl_writer.specs.Image.{is_pointer, CanBeCopied};
-ghost use Rattle.bl_writer.specs.Plans.{CopiesLeaves, IsPlanOf, StepFits, joined_kinds, joined_runs, joined_slots, no_plan, step_of};
+ghost use Rattle.bl_writer.specs.Plans.{AreInOrder, CopiesLeaves, IsPlanOf, StepFits, joined_kinds, joined_runs, joined_slots, no_plan, step_of};
 
 use bl_format::{Kind, Leaf};
 use bl_layout::Layout;
@@ -70,8 +71,10 @@ fn plan_of(alloc: Global, layout: &Layout, s: u32) -> Result<Plan, NoMemory>
 // The steps that copy the leaves of a struct of so many bytes. Each is joined with those before it
 // where that is possible.
 fn steps_of(alloc: Global, leaves: &[Leaf], len: u32) -> Result<Vec<Step>, NoMemory>
-    requires { All (CanBeCopied len) leaves.now }
+    requires leaves { All (CanBeCopied len) leaves.now }
+    requires apart { AreApart 0 leaves.now len }
     ensures fits { IfOk result (λ steps. All (StepFits len) steps.items) }
+    ensures apart { IfOk result (λ steps. AreInOrder 0 steps.items) }
     ensures copies { IfOk result (λ steps. CopiesLeaves len leaves.now steps.items) }
 {
     let mut steps = Vec::new(alloc);

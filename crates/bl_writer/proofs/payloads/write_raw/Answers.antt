@@ -9,7 +9,7 @@ use Rattle.bl_writer.proofs.payloads.write_raw.Goals as goal
 pub split_at_mut-own-requires : goal.split_at_mut-own-requires
 split_at_mut-own-requires g c =
     let is = sym c.holds_pointers.ensures ∙ c.if-holds_pointers.true in
-    let long = pointers_scratch c.args.output.now c.args.kind c.args.head c.requires.raw is in
+    let long = pointers_scratch c.args.kind c.args.head c.requires.raw is in
     omega (arith, long, c.requires.scratch)
 
 pub write_pointers-requires-clause-dst : goal.write_pointers-requires-clause-dst
