@@ -105,15 +105,14 @@ impl Table {
     pub fn resolve_in_group(&self, group: u32, address: u64) -> Option<u32>
         ensures { result ≡ target_in_group self.now group address }
     {
-        if address != 0 {
-            let place = Place {
-                part: group,
-                address,
-            };
-            last_at(&self.nodes, self.span_of(group), place)
-        } else {
-            None
+        let place = Place {
+            part: group,
+            address,
+        };
+        if place.address == 0 {
+            return None;
         }
+        last_at(&self.nodes, self.span_of(group), place)
     }
 
     // Where a group is guessed to stand in the nodes.

@@ -20,27 +20,28 @@ fn table(rt: &HostRuntime) -> Result<Table, NoMemory>
 #[test]
 fn names_nodes(rt: HostRuntime) -> Result<(), NoMemory> {
     let table = table(&rt)?;
-    for (group, address, want) in [
+    for (group, address, want, among) in [
         // Null, whatever the group.
-        (1, 0, None),
+        (1, 0, None, None),
         // One address in two groups.
-        (1, 0x10, Some(1)),
-        (2, 0x10, Some(6)),
+        (1, 0x10, Some(1), Some(1)),
+        (2, 0x10, Some(6), Some(6)),
         // In two nodes of a group the last one.
-        (1, 0x20, Some(3)),
-        (2, 0x20, Some(5)),
-        // An ID of another group.
-        (0, 0x10, Some(1)),
-        (1, 0x30, Some(4)),
-        (9, 0x30, Some(4)),
+        (1, 0x20, Some(3), Some(3)),
+        (2, 0x20, Some(5), Some(5)),
+        // An ID of another group, which isn't among the group's own nodes.
+        (0, 0x10, Some(1), None),
+        (1, 0x30, Some(4), None),
+        (9, 0x30, Some(4), None),
         // Another node of another group.
-        (0, 0x20, None),
-        (1, 0x50, None),
+        (0, 0x20, None, None),
+        (1, 0x50, None, None),
         // Not an address of a node.
-        (1, 0x15, None),
-        (2, 0xffff_ffff_ffff_ffff, None),
+        (1, 0x15, None, None),
+        (2, 0xffff_ffff_ffff_ffff, None, None),
     ] {
         assert_eq!(rt; table.resolve(group, address), want);
+        assert_eq!(rt; table.resolve_in_group(group, address), among);
     }
     Ok(())
 }

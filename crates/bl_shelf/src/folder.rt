@@ -5,7 +5,7 @@ ghost use Rattle.bl_shelf.specs.Causes.{HasRisen, next_count};
 
 use crate::{Shelf, ShelfFault};
 use std::alloc::{AllocError, Global};
-use std::fs::OpenFile;
+use std::fs::{File, OpenFile};
 use std::io::{ErrorKind, Read, Seek, SeekFrom, Write};
 use std::rt::Files;
 use std::{fs, io};
@@ -114,6 +114,13 @@ fn read_part<F: Read + Seek>(file: &mut F, at: u64, dst: &mut [u8]) -> io::Resul
     file.read_exact(dst)
 }
 
+// A new file of this name. One that an earlier run left is removed and not written over, since its
+// bytes may have another name, too.
+fn create_part<R: Files>(host: &R, name: &str) -> io::Result<R::File> {
+    let _ = fs::remove_file(host, name);
+    File::create_new(host, name)
+}
+
 // The place of the file of this name.
 fn position_of<F>(files: &[NamedFile<F>], name: &str) -> Option<usize>
     ensures found { IfSome result (λ place.
@@ -190,7 +197,7 @@ impl<R: Files + Drop> Shelf for FolderShelf<R> {
         let mut part_name = String::from_str(self.alloc, name)?;
         part_name.push_str(".bl-part")?;
         let name = String::from_str(self.alloc, name)?;
-        match fs::create(&self.host, part_name.as_str()) {
+        match create_part(&self.host, part_name.as_str()) {
             Ok(file) => {
                 self.staged = Some(PartFile {
                     name,
@@ -275,6 +282,12 @@ mod tests {
             shelf.size("kept_by_folder_shelf.bl-part"),
             Err(ShelfFault::Absent)
         );
+        assert_eq!(rt; shelf.size(name), Ok(6));
+
+        // A part of another output that is a second name of the file.
+        assert!(rt; fs::hard_link(&rt, name, "other_of_folder_shelf.bl-part").is_ok());
+        assert_eq!(rt; shelf.stage("other_of_folder_shelf", 1), Ok(()));
+        shelf.abandon();
         assert_eq!(rt; shelf.size(name), Ok(6));
         assert!(rt; fs::remove_file(&rt, name).is_ok());
     }
