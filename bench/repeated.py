@@ -32,16 +32,20 @@ def moved(payload, places, by):
     return own.tobytes() + payload[len(own) * 8:]
 
 
-def write(path, sample, structs):
-    """Writes the blocks of a sample so often that so many of structs stand in the file."""
+def write(path, name, structs):
+    """Writes the blocks of a file so often that so many of structs stand in the new one."""
+    sample = name.read_bytes()
     form = converted.form(sample)
     if form is None or (form.width, form.order) != (8, "<"):
-        sys.exit("the sample hasn't 8-byte pointers and the lowest byte first, or is compressed")
+        sys.exit(f"{name} hasn't 8-byte pointers and the lowest byte first, or is compressed")
     blocks = list(converted.blocks(sample, form))
     nodes = [block for block in blocks if block.code != b"DNA1"]
+    own = sum(block.index != 0 for block in nodes)
+    if own == 0 or structs > own * (2 ** 64 // APART):
+        sys.exit(f"{name} has too few blocks of structs")
     addresses = {block.address for block in nodes} - {0}
     named = [[place for place, word in enumerate(words(block.payload)) if word in addresses] for block in nodes]
-    times = -(-structs // sum(block.index != 0 for block in nodes))
+    times = -(-structs // own)
     with open(path, "wb", buffering=2 ** 20) as file:
         file.write(sample[:12])
         for by in range(0, times * APART, APART):

@@ -258,7 +258,7 @@ def measure(folder, program, rounds):
 def attempt(folder, given, name, count):
     """What was measured of `convert` on a file, after a line that tells of it."""
     if name == "repeated":
-        write_apart(repeated.write, folder / "input", given.sample.read_bytes(), count)
+        write_apart(repeated.write, folder / "input", given.sample, count)
     else:
         write_apart(write, folder / "input", name, count)
     convert.digest(folder / "input")
