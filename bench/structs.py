@@ -10,7 +10,7 @@ file is made of one that Blender saved, where such a sample is given: its blocks
 
 Both programs read a file from the page cache and write a new one in the same folder, by turns. Of each file
 it prints the blocks, the bytes, the median seconds of both, their ratio, the peak memory of `convert`, and
-what of that is beside the file and the output. The status is 1 where an output isn't right, and 0 whatever
+what that is for each block. The status is 1 where an output isn't right, and 0 whatever
 the times are: an output has to convert to itself, and that of a small file has to be the one of
 converted.py."""
 import argparse
@@ -265,12 +265,11 @@ def attempt(folder, given, name, count):
     copied, done, peak, answers = measure(folder, given.program, given.rounds)
     wrong = list(large_faults(folder, given.program, answers)) if answers[0][0] == 0 else [f"{set(answers)}"]
     size = (folder / "input").stat().st_size
-    made = (folder / "output").stat().st_size if not wrong else 0
     blocks = 0 if wrong else int(answers[0][1].split()[1])
-    beside = peak - size - made
+    each = peak / max(1, blocks)
     print(f"{name:10} {count:9,} {blocks:9,} {size:12,} {copied:7.3f} {done:9.3f} {done / copied:6.2f}"
-          f" {peak // 1024:10,} {beside // 1024:10,}  {'; '.join(wrong) or 'right'}", flush=True)
-    return Measured(done, done / copied, beside / max(1, blocks), not wrong)
+          f" {peak // 1024:10,} {each:10,.0f}  {'; '.join(wrong) or 'right'}", flush=True)
+    return Measured(done, done / copied, each, not wrong)
 
 
 def bench(folder, given):
@@ -284,11 +283,11 @@ def bench(folder, given):
     print(f"load {os.getloadavg()[0]:.1f}; seconds are the median of {given.rounds}, memory is the most;"
           f" convert's seconds have {alone:.3f} in which the program starts")
     print(f"{'file':10} {'of':>9} {'blocks':>9} {'bytes':>12} {'cp s':>7} {'convert s':>9} {'ratio':>6}"
-          f" {'peak KiB':>10} {'beside KiB':>10}")
+          f" {'peak KiB':>10} {'a block':>10}")
     for name in ("objects", "groups", *(["repeated"] if given.sample else [])):
         done = attempt(folder, given, name, given.blocks)
         if done.right:
-            print(f"{name}: the ratio is {done.ratio:.2f} (wanted: at most {WANTED_RATIO}); beside file and output"
+            print(f"{name}: the ratio is {done.ratio:.2f} (wanted: at most {WANTED_RATIO}); in memory"
                   f" {done.memory_a_block:.0f} bytes a block (wanted: at most {WANTED_MEMORY})")
         rights.append(done.right)
     for name, count in (("slots", given.slots), ("one_group", given.blocks)):
