@@ -9,20 +9,9 @@ use crate::plans::{Plan, Slots, Step};
 use bl_num::{Order, read_whole, write_whole};
 use bl_ptrarrays::Images;
 
-/// Copies one element of a struct by its plan, in the same order and at the same width: values as
-/// they are, pointers as the addresses that their targets have in the output, and zeros elsewhere.
-pub fn copy_element<I: Images>(plan: &Plan, order: Order, src: &[u8], images: &I, dst: &mut [u8])
-    requires fits { PlanFits (length src.now) plan.now }
-    requires dst { length dst.old ≡ length src.now }
-    ensures copied { dst.new ≡ planned plan.now (I.names images.now) order src.now }
-    ensures length { length dst.new ≡ length dst.old }
-{
-    dst.copy_from_slice(src);
-    rewrite_element(plan, order, images, dst);
-}
-
-/// Makes of so many elements of a struct, each of so many bytes and where it stands, what the plan
-/// makes of them.
+/// Makes of so many elements of a struct, each of so many bytes and where it stands, what its plan
+/// makes of them, in the same order and at the same width: values stay as they are, pointers become
+/// the addresses that their targets have in the output, and all else zeros.
 pub(crate) fn rewrite_elements<I: Images>(
     plan: &Plan,
     order: Order,
@@ -36,20 +25,21 @@ pub(crate) fn rewrite_elements<I: Images>(
     ensures rewritten { dst.new ≡ all_planned plan.now (I.names images.now) order len count dst.old }
     ensures length { length dst.new ≡ length dst.old }
 {
+    let null = images.image(0);
     for element in 0..count as usize {
         let (_, rest) = dst.split_at_mut(element * len);
         let (own, _) = rest.split_at_mut(len);
-        rewrite_element(plan, order, images, own);
+        rewrite_element(plan, order, images, null, own);
     }
 }
 
-// The same of one element.
-fn rewrite_element<I: Images>(plan: &Plan, order: Order, images: &I, dst: &mut [u8])
+// The same of one element. The image of null is known.
+fn rewrite_element<I: Images>(plan: &Plan, order: Order, images: &I, null: u64, dst: &mut [u8])
     requires fits { PlanFits (length dst.old) plan.now }
+    requires null { null ≡ address_of (I.names images.now 0) }
     ensures rewritten { dst.new ≡ planned plan.now (I.names images.now) order dst.old }
     ensures length { length dst.new ≡ length dst.old }
 {
-    let null = images.image(0);
     let mut done = 0;
     let steps = plan.steps.as_slice();
     for step in steps {
@@ -96,8 +86,7 @@ fn clear(from: usize, to: usize, dst: &mut [u8])
     }
 }
 
-// Takes one step where the bytes stand that it is to copy: those of a run stay. The image of null is
-// known.
+// Takes one step where the bytes stand that it is to copy: those of a run stay.
 #[tactic(auto, unfolding(crate::specs::Plans::with_step))]
 fn rewrite_step<I: Images>(step: Step, order: Order, images: &I, null: u64, dst: &mut [u8])
     requires fits { StepFits (length dst.old) step }

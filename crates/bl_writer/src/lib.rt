@@ -15,7 +15,6 @@ mod staging;
 
 pub use bl_ptrarrays::Images;
 pub use blocks::write_block;
-pub use element::copy_element;
 pub use fault::WriteFault;
 pub use output::Output;
 pub use plans::{Plan, plans_of};

@@ -1,6 +1,7 @@
 ghost use Rattle.std.specs.Prelude.{◌==◌, if◌then◌else◌, Some, None};
 
-use crate::{Images, copy_element, plans_of};
+use crate::element::rewrite_elements;
+use crate::{Images, plans_of};
 use bl_format::LayoutFault;
 use bl_layout::Layout;
 use bl_num::{Order, Width};
@@ -32,8 +33,8 @@ fn layout_of(rt: &HostRuntime, width: Width) -> Result<Layout, LayoutFault> {
     }
 }
 
-// A copy of an element by its plan, where the layout has a struct of this length.
-fn copied(
+// A copy of an element, rewritten by its plan, where the layout has a struct of this length.
+fn rewritten(
     alloc: Global,
     layout: &Layout,
     order: Order,
@@ -45,8 +46,8 @@ fn copied(
     let Ok(plans) = plans_of(alloc, layout) else {
         return None;
     };
-    let mut dst = [b'?'; STRUCT_LEN];
-    copy_element(&plans[0], order, src, &OneName, &mut dst);
+    let mut dst = *src;
+    rewrite_elements(&plans[0], order, STRUCT_LEN, 1, &OneName, &mut dst);
     Some(dst)
 }
 
@@ -60,10 +61,10 @@ fn step_count(alloc: Global, layout: &Layout) -> Option<usize> {
 }
 
 #[test]
-fn copies_eight_byte_pointers(rt: HostRuntime) -> Result<(), LayoutFault> {
+fn rewrites_eight_byte_pointers(rt: HostRuntime) -> Result<(), LayoutFault> {
     let layout = layout_of(&rt, Width::Eight)?;
     assert_eq!(rt;
-        copied(
+        rewritten(
             rt.alloc(),
             &layout,
             Order::Little,
@@ -75,10 +76,10 @@ fn copies_eight_byte_pointers(rt: HostRuntime) -> Result<(), LayoutFault> {
 }
 
 #[test]
-fn copies_four_byte_pointers(rt: HostRuntime) -> Result<(), LayoutFault> {
+fn rewrites_four_byte_pointers(rt: HostRuntime) -> Result<(), LayoutFault> {
     let layout = layout_of(&rt, Width::Four)?;
     assert_eq!(rt;
-        copied(
+        rewritten(
             rt.alloc(),
             &layout,
             Order::Big,
