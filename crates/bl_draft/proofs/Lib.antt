@@ -9,3 +9,4 @@ pub mod OwnViews
 pub mod OutlineFacts
 pub mod TargetsMade
 pub mod AllNodes
+pub mod WholeOwn
