@@ -1,8 +1,9 @@
 -- What a page says of the bytes that are held.
-use Rattle.std.proofs.Common.{◌≡◌, ℕ, ◌+◌, ◌-◌, ◌≤◌, ◌<◌, All, List, length, take, drop, Option, Some, None, option_map, Result, refl, sym, ap, ◌∙◌, arith}
+use Rattle.std.proofs.Common.{◌≡◌, ℕ, ◌+◌, ◌-◌, ◌≤◌, ◌<◌, All, List, length, take, drop, ◌++◌, Option, Some, None, option_map, Result, refl, sym, ap, ◌∙◌, arith}
 use Rattle.std.specs.Prelude.{IfSome, IsSomeAnd, IsErrOf}
 use Rattle.std.specs.Option.{ForSome}
-use Rattle.std.proofs.lemmas.List.{take_all, take-take, drop-drop, drop-take}
+use Rattle.std.proofs.lemmas.List.{take_all, take-take, drop-drop, drop-take, take_at, drop_at, length-take-le, length-append}
+use Rattle.std.proofs.Math.Seq.{take-add}
 use Rattle.bl_shelf.specs.Told.{Told, bytes_under}
 use Rattle.bl_shelf.specs.Contents.{Reaches, AreBytesAt, IsAbsentExactly, IsOfBytes}
 use Rattle.bl_shelf.specs.declared.shelf.ShelfFault.{ShelfFault}
@@ -82,3 +83,46 @@ pub first_page : (told : Option Told) (name : List ℕ) (size n : ℕ) (page : L
 first_page None name size n page len below read is = tt
 first_page (Some t) name size n page len below read is =
     rw is (first_of (bytes_under name t) size page (len t refl) below read)
+
+-- what is copied from so far behind the page's start are bytes of the file
+pub copied_place : (told : Option Told) (name : List ℕ) (size from filled : ℕ) (page : List ℕ) → IsHeldAnd told name (HavePage size from filled page) → (at place : ℕ) (part : List ℕ) → from + place ≡ at
+    → place + length part ≤ filled → part ≡ take (length part) (drop place page) → AreBytesAt told name at part
+copied_place told name size from filled page held at place part begins within is =
+    let far : at - from ≡ place = omega (arith, begins) in
+    copied_page told name size from filled page held at part (omega (arith, begins)) (rw far within) (rw far is)
+
+-- a front and what stands behind it, of some bytes
+joined : (p q z : List ℕ) → take (length p) z ≡ p → take (length q) (drop (length p) z) ≡ q → take (length (p ++ q)) z ≡ p ++ q
+joined p q z front rest = ap (λ (i : ℕ). take i z) (length-append p q) ∙ take-add (length p) (length q) z ∙ ap (λ (x : List ℕ). x ++ take (length q) (drop (length p) z)) front ∙ ap (λ (x : List ℕ). p ++ x) rest
+
+joined_of : (o : Option (List ℕ)) (at : ℕ) (p q : List ℕ) → option_map (λ bytes. take (length p) (drop at bytes)) o ≡ Some p
+    → option_map (λ bytes. take (length q) (drop (at + length p) bytes)) o ≡ Some q → option_map (λ bytes. take (length (p ++ q)) (drop at bytes)) o ≡ Some (p ++ q)
+joined_of None at p q front rest = absurd (cc)
+joined_of (Some b) at p q front rest =
+    let first : take (length p) (drop at b) ≡ p = cc in
+    let second : take (length q) (drop (at + length p) b) ≡ q = cc in
+    ap Some (joined p q (drop at b) first (ap (take (length q)) (drop-drop (length p) at b) ∙ second))
+
+joined_under : (told : Option Told) (name : List ℕ) (at : ℕ) (p q : List ℕ) → AreBytesAt told name at p → AreBytesAt told name (at + length p) q → AreBytesAt told name at (p ++ q)
+joined_under None name at p q front rest = tt
+joined_under (Some t) name at p q front rest = joined_of (bytes_under name t) at p q front rest
+
+-- bytes of the file and those behind them, which are put where these end
+pub next_part : (told : Option Told) (name : List ℕ) (at n m : ℕ) (x y : List ℕ) → n ≤ length x → AreBytesAt told name at (take n x) → AreBytesAt told name (at + n) (take m y)
+    → AreBytesAt told name at (take (n + m) (take n x ++ y))
+next_part told name at n m x y within front rest =
+    let len : length (take n x) ≡ n = length-take-le n x within in
+    let parts : take (n + m) (take n x ++ y) ≡ take n x ++ take m y =
+    take-add n m (take n x ++ y) ∙ ap (λ (z : List ℕ). z ++ take m (drop n (take n x ++ y))) (take_at (take n x) y n len) ∙ ap (λ (z : List ℕ). take n x ++ take m z) (drop_at (take n x) y n len) in
+    rw parts (joined_under told name at (take n x) (take m y) front (rw len rest))
+
+-- the same of a shelf and a file that have stayed
+pub part_more : (told told' : Option Told) (name name' : List ℕ) (at n m : ℕ) (x x' y : List ℕ) → told' ≡ told → name' ≡ name → x' ≡ take n x → n ≤ length x → AreBytesAt told name at (take n x)
+    → AreBytesAt told' name' (at + n) (take m y) → AreBytesAt told name at (take (n + m) (x' ++ y))
+part_more told told' name name' at n m x x' y same-told same-name front within done rest =
+    rw front (next_part told name at n m x y within done (rw (sym same-told) (rw (sym same-name) rest)))
+
+-- a page of a shelf and a file that have stayed
+pub page_more : (told told' : Option Told) (name name' : List ℕ) (size size' from filled : ℕ) (page : List ℕ) → told' ≡ told → name' ≡ name → size' ≡ size
+    → IsHeldAnd told' name' (HavePage size from filled page) → IsHeldAnd told name (HavePage size' from filled page)
+page_more told told' name name' size size' from filled page same-told same-name same held = rw (sym same-told) (rw (sym same-name) (rw same held))

@@ -1,5 +1,5 @@
 // A file of which one page is held.
-ghost use Rattle.std.specs.Prelude.{◌≡◌, ◌≢◌, ◌+◌, ◌-◌, ◌≤◌, None, min, take, drop, length, string_bytes, OnOk, IsErrOf};
+ghost use Rattle.std.specs.Prelude.{◌≡◌, ◌≢◌, ◌+◌, ◌-◌, ◌<◌, ◌≤◌, ◌%◌, None, min, take, drop, length, string_bytes, IfOk, OnOk, IsErrOf};
 ghost use Rattle.std.specs.Vec.{vec_len};
 ghost use Rattle.bl_shelf.specs.Causes.{HasCause};
 ghost use Rattle.bl_shelf.specs.Contents.{Reaches, AreBytesAt, IsAbsentExactly};
@@ -10,33 +10,32 @@ use crate::Payload;
 use bl_shelf::{Shelf, ShelfFault};
 use std::alloc::Global;
 
-// The bytes of a page, or fewer where the file has fewer.
-const PAGE: u64 = 131_072;
+// The bytes of a page, or fewer where the file ends before.
+const PAGE: u64 = 65_536;
 
-/// A file of which one page is held. What stands in there is copied, what is as long as a page is
-/// read by itself, and for anything else the page is read that begins with it.
+/// A file of which one page is held. A page begins at a multiple of 65,536 and is read whole, or up
+/// to the file's end.
 #[derive(Drop)]
 pub struct PagedPayload {
     name: String,
     size: u64,
-    // where the page stands in the file, and how many of its bytes are read
+    // Where the page stands in the file, and how many of its bytes are read.
     from: u64,
     filled: usize,
     page: Vec<u8>,
     ghost within: { filled ≤ vec_len page },
+    ghost begins: { from % 65536 ≡ 0 },
+    ghost long: { vec_len page ≡ min size 65536 },
 }
 
 impl PagedPayload {
-    // Reads the page that begins at a place, up to its length or the file's end. After a failure it
-    // is empty.
+    // Reads the page that has a place, unless it is held. After a failure none is held.
     fn turn<S: Shelf>(&mut self, shelf: &mut S, at: u64) -> Result<(), ShelfFault>
-        requires inside { at ≤ self.old.size }
+        requires inside { at < self.old.size }
         requires held { IsHeldAnd (S.told shelf.old) (string_bytes self.old.name)
             (HavePage self.old.size self.old.from self.old.filled self.old.page.items) }
-        ensures from { OnOk result (self.new.from ≡ at) }
-        ensures filled { OnOk result
-            (self.new.filled ≡ min (vec_len self.old.page) (self.old.size - at)) }
-        ensures len { vec_len self.new.page ≡ vec_len self.old.page }
+        ensures from { OnOk result (self.new.from ≡ at - at % 65536) }
+        ensures filled { OnOk result (at % 65536 < self.new.filled) }
         ensures name { self.new.name ≡ self.old.name }
         ensures size { self.new.size ≡ self.old.size }
         ensures held { IsHeldAnd (S.told shelf.old) (string_bytes self.old.name)
@@ -48,12 +47,50 @@ impl PagedPayload {
         ensures absent { IsErrOf result ShelfFault.Absent → S.told shelf.old ≡ None }
         ensures no_memory { result ≢ Err ShelfFault.NoMemory }
     {
-        let filled = (self.size - at).min(self.page.len() as u64) as usize;
+        let from = at - at % PAGE;
+        if self.from == from && at % PAGE < self.filled as u64 {
+            return Ok(());
+        }
+        let filled = (self.size - from).min(self.page.len() as u64) as usize;
         self.filled = 0;
-        read_first(shelf, self.name.as_str(), at, &mut self.page, filled)?;
-        self.from = at;
+        read_first(shelf, self.name.as_str(), from, &mut self.page, filled)?;
+        self.from = from;
         self.filled = filled;
         Ok(())
+    }
+
+    // Copies what the page of a place has from there on, at most as much as there is room for, and
+    // answers how many bytes that is.
+    fn copy_next<S: Shelf>(
+        &mut self,
+        shelf: &mut S,
+        at: u64,
+        dst: &mut [u8],
+    ) -> Result<usize, ShelfFault>
+        requires inside { at + length dst.old ≤ self.old.size }
+        requires some { 0 < length dst.old }
+        requires held { IsHeldAnd (S.told shelf.old) (string_bytes self.old.name)
+            (HavePage self.old.size self.old.from self.old.filled self.old.page.items) }
+        ensures some { IfOk result (λ n. 0 < n) }
+        ensures within { IfOk result (λ n. n ≤ length dst.old) }
+        ensures bytes { IfOk result (λ n.
+            AreBytesAt (S.told shelf.old) (string_bytes self.old.name) at (take n dst.new)) }
+        ensures name { self.new.name ≡ self.old.name }
+        ensures size { self.new.size ≡ self.old.size }
+        ensures held { IsHeldAnd (S.told shelf.old) (string_bytes self.old.name)
+            (HavePage self.old.size self.new.from self.new.filled self.new.page.items) }
+        ensures told { S.told shelf.new ≡ S.told shelf.old }
+        ensures room { S.room shelf.new ≡ S.room shelf.old }
+        ensures cause { HasCause (S.faults shelf.old) (S.faults shelf.new)
+            (S.misses shelf.old) (S.misses shelf.new) result }
+        ensures absent { IsErrOf result ShelfFault.Absent → S.told shelf.old ≡ None }
+        ensures no_memory { result ≢ Err ShelfFault.NoMemory }
+    {
+        self.turn(shelf, at)?;
+        let place = at % PAGE;
+        let n = (self.filled - place as usize).min(dst.len());
+        copy_part(&self.page, place, &mut dst[..n]);
+        Ok(n)
     }
 }
 
@@ -92,15 +129,16 @@ impl Payload for PagedPayload {
         at: u64,
         dst: &mut [u8],
     ) -> Result<(), ShelfFault> {
-        if self.from <= at && at - self.from + dst.len() as u64 <= self.filled as u64 {
-            copy_part(&self.page, at - self.from, dst);
+        let place = at % PAGE;
+        if self.from == at - place && place + dst.len() as u64 <= self.filled as u64 {
+            copy_part(&self.page, place, dst);
             return Ok(());
         }
-        if dst.len() >= self.page.len() {
-            return shelf.read_at(self.name.as_str(), at, dst);
+        let mut done = 0;
+        while done < dst.len() {
+            let (_, rest) = dst.split_at_mut(done);
+            done += self.copy_next(shelf, at + done as u64, rest)?;
         }
-        self.turn(shelf, at)?;
-        copy_part(&self.page, 0, dst);
         Ok(())
     }
 }
@@ -127,7 +165,7 @@ fn read_first<S: Shelf>(
 }
 
 // Copies what stands at a place of a page.
-fn copy_part(page: &[u8], place: u64, dst: &mut [u8])
+pub fn copy_part(page: &[u8], place: u64, dst: &mut [u8])
     requires { place + length dst.old ≤ length page.now }
     ensures { dst.new ≡ take (length dst.old) (drop place page.now) }
 {
@@ -152,9 +190,9 @@ mod tests {
     ) -> Result<u64, ShelfFault> {
         let size = shelf.size(name)?;
         let mut payload = P::start(alloc, shelf, name, size)?;
-        if size == 131_080 && long.len() <= 131_080 {
-            payload.copy_out(shelf, 131_070, &mut part[..2])?;
-            payload.copy_out(shelf, 131_071, &mut part[2..])?;
+        if size == 65_544 && long.len() <= 65_544 {
+            payload.copy_out(shelf, 65_534, &mut part[..2])?;
+            payload.copy_out(shelf, 65_535, &mut part[2..])?;
             payload.copy_out(shelf, 0, long)?;
         }
         Ok(size)
@@ -163,13 +201,13 @@ mod tests {
     #[test]
     fn copies_parts(rt: HostRuntime) -> Result<(), Fail> {
         let alloc = rt.alloc();
-        let mut file = vec![in alloc; b'.'; 131_070]?;
+        let mut file = vec![in alloc; b'.'; 65_534]?;
         file.extend_from_slice(b"abcdefghij")?;
         let mut shelf = SteadyShelf::new(alloc);
         shelf.hold("a", &file)?;
         let mut part = [0; 6];
-        let mut long = vec![in alloc; 0; 131_078]?;
-        for (name, want) in [("a", Ok(131_080)), ("b", Err(ShelfFault::Absent))] {
+        let mut long = vec![in alloc; 0; 65_542]?;
+        for (name, want) in [("a", Ok(65_544)), ("b", Err(ShelfFault::Absent))] {
             let size = size_and_parts::<PagedPayload, SteadyShelf>(
                 alloc, &mut shelf, name, &mut part, &mut long,
             );

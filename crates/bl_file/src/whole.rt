@@ -2,6 +2,7 @@
 ghost use Rattle.std.specs.Prelude.{◌≡◌, ◌<◌, All, length};
 
 use crate::Payload;
+use crate::paged::copy_part;
 use bl_num::Text;
 use bl_shelf::{Shelf, ShelfFault};
 use std::alloc::Global;
@@ -35,7 +36,6 @@ impl Payload for WholePayload {
         let file = Vec::from_slice(alloc, name.as_bytes())?;
         let mut bytes = vec![in alloc; 0; size as usize]?;
         shelf.read_at(name, 0, &mut bytes)?;
-        are_bytes(&bytes);
         Ok(WholePayload {
             name: Text::from_vec(file),
             bytes: Text::from_vec(bytes),
@@ -48,16 +48,10 @@ impl Payload for WholePayload {
         at: u64,
         dst: &mut [u8],
     ) -> Result<(), ShelfFault> {
-        let rest = &self.bytes.as_slice()[at as usize..];
-        dst.copy_from_slice(&rest[..dst.len()]);
+        copy_part(self.bytes.as_slice(), at, dst);
         Ok(())
     }
 }
-
-// A byte is below 256, which is known of a slice alone.
-fn are_bytes(bytes: &[u8])
-    ensures { All (λ byte. byte < 256) bytes.now }
-{}
 
 #[cfg(test)]
 mod tests {

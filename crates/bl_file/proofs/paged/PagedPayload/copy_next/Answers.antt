@@ -1,0 +1,24 @@
+use Rattle.std.proofs.Common.{◌≡◌, ◌-◌, ◌≤◌, ◌<◌, ◌+◌, ◌%◌, length, take, drop, string_bytes, arith, ◌∙◌, ap, sym}
+use Rattle.std.proofs.lemmas.List.{take_at, length-take-le}
+use Rattle.std.proofs.Math.Nat.{mod-le}
+use Rattle.bl_file.proofs.PageLemmas.{copied_place}
+use Rattle.bl_file.proofs.paged.PagedPayload.copy_next.Goals as goal
+
+pub returns-clause-bytes : goal.returns-clause-bytes
+returns-clause-bytes g c =
+    let old = c.args.self.now in
+    let p = c.turn.new.self in
+    let part = c.copy_part.new.dst in
+    let n = c.min-n.result in
+    let place = c.args.at % 65536 in
+    let filled : place < p.filled = c.in_ok-turn.ensures.filled in
+    let begins : p.from ≡ c.args.at - place = c.in_ok-turn.ensures.from in
+    let below = mod-le c.args.at 65536 in
+    let least = c.min-n.ensures in
+    let long : length part ≡ length (take n c.args.dst.now) = c.copy_part.auto.dst in
+    let len : length part ≡ n = long ∙ length-take-le n c.args.dst.now (omega (arith, least)) in
+    let within : place + length part ≤ p.filled = omega (arith, len, least, filled) in
+    let copied : part ≡ take (length part) (drop place p.page.items) =
+    c.copy_part.ensures ∙ ap (λ k. take k (drop place c.deref.result.now)) (sym long) ∙ ap (λ items. take (length part) (drop place items)) c.deref.ensures.value in
+    rw (take_at part (drop n c.args.dst.now) n len)
+    (copied_place (g.S.Shelf.told c.args.shelf.now) (string_bytes old.name) old.size p.from p.filled p.page.items c.turn.ensures.held c.args.at place part (omega (arith, begins, below)) within copied)
