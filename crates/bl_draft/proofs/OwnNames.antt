@@ -1,5 +1,5 @@
 -- What is known of the entries of a draft of one file's own nodes tells what addresses name from them.
-use Rattle.std.proofs.Common.{◌≡◌, ◌<◌, ◌≤◌, inl, inr, ℕ, zero, suc, false, cond, All, List, [], ◌∷◌, length, get_or, Option, Some, None, refl, sym, ap, subst, ◌∙◌, arith}
+use Rattle.std.proofs.Common.{◌≡◌, ◌<◌, ◌≤◌, inl, inr, ℕ, zero, suc, false, cond, All, List, [], ◌∷◌, length, get_or, Some, None, refl, sym, ap, subst, ◌∙◌, arith}
 use Rattle.std.specs.Prelude.{◌==◌, ◌||◌, map, option_and_then}
 use Rattle.std.specs.List.{enumerate_from}
 use Rattle.std.proofs.Math.Path.{fun_ext}
@@ -174,13 +174,3 @@ module _ (f : File) (d : Draft) (k : Known) (draft : IsDraftOf f.catalogue f.nod
       ap (λ o. option_and_then (known_in_scope k e) (option_and_then (λ m. image_numbered (get_or k.images m 0)) o))
       (λ i. target_of (is.marks i) (source_here e lt i) address)
       ∙ named_here e (file_names f (group_of (file_codes f) (entry_node (entry_at d e))) address) lt)
-
--- ---- targets
-
--- an address that names a node isn't null
-pub named-not_null : (ms : List Mark) (g address node : ℕ) (o : Option ℕ) → Some node ≡ target_of ms g address → address ≡ 0
-    → o ≡ None
-unfolding target_of
-named-not_null ms g address node o is null =
-    let none : Some node ≡ None = rw null at is in
-    absurd (cc)

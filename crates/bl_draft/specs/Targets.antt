@@ -1,5 +1,5 @@
 -- What addresses name from the entries of a draft, by what is known of its source and of its output.
-use Rattle.std.specs.Prelude.{ℕ, Bool, false, ◌||◌, ◌==◌, if◌then◌else◌, List, get_or, Option, Some, None, option_and_then}
+use Rattle.std.specs.Prelude.{◌≡◌, refl, ℕ, Bool, false, ◌||◌, ◌==◌, if◌then◌else◌, List, get_or, Option, Some, None, option_and_then}
 use Rattle.bl_format.specs.Nodes.{Mark, target_of}
 use Rattle.bl_format.specs.Graph.{Target, Naming}
 use Rattle.bl_selection.specs.Selection.{image_numbered}
@@ -23,3 +23,8 @@ abbrev pub known_names : Known → ℕ → Naming Target
 known_names k e address =
     let target = target_of k.marks (get_or k.sources e 0) address in
     option_and_then (known_in_scope k e) (option_and_then (λ n. image_numbered (get_or k.images n 0)) target)
+
+-- the address 0 names nothing
+pub known_names-null : (k : Known) (e : ℕ) → known_names k e 0 ≡ None
+unfolding target_of
+known_names-null k e = refl

@@ -50,11 +50,13 @@ impl<'a> Model for EntryTargets<'a> {
 
 impl<'a> Targets for EntryTargets<'a> {
     ghost use Rattle.std.specs.Prelude.{length};
-    ghost use Rattle.bl_draft.specs.Targets.{known_names};
+    ghost use Rattle.bl_draft.specs.Targets.{known_names, known_names-null};
 
     ghost count = { λ k. length k.groups };
 
     ghost names = { known_names };
+
+    ghost null_names_nothing = { known_names-null };
 
     fn target(&self, node: u32, address: u64) -> Option<u32> {
         match self.table.resolve(self.sources[node as usize], address) {

@@ -61,11 +61,6 @@ unfolding target_in_group
 in_group_inside ms group address =
     null_inside (address == 0) _ (length ms) (last_from-inside (λ (m : Mark). m.group == group && m.address == address) 0 ms)
 
--- the address 0 names nothing in a group
-pub in_group_null : (ms : List Mark) (group address : ℕ) → address ≡ 0 → target_in_group ms group address ≡ None
-unfolding target_in_group
-in_group_null ms group address is = rw is refl
-
 -- a raw node is one of its group
 raw_of_group : (nodes : List Head) (marks : List Mark) (group k : ℕ) (d : Mark) → k < length marks
     → ((get_or marks k d).group == group) ≡ true → is_raw nodes k ≡ true → is_raw_of marks nodes group k ≡ true

@@ -1,6 +1,6 @@
 -- What addresses name in the groups of nodes that have a raw node. Views are kept of raw nodes alone, and none of
 -- these is an ID, so no other names are wanted for kinds.
-use Rattle.std.specs.Prelude.{ℕ, ◌==◌, ◌&&◌, Bool, false, List, if◌then◌else◌, length, slice_get, get_or, Option, None}
+use Rattle.std.specs.Prelude.{◌≡◌, refl, ℕ, ◌==◌, ◌&&◌, Bool, true, false, List, if◌then◌else◌, length, slice_get, get_or, Option, None}
 use Rattle.std.specs.List.{list_any}
 use Rattle.bl_format.specs.declared.file.Head.{Head}
 use Rattle.bl_format.specs.Words.{numbers_below}
@@ -30,3 +30,14 @@ abbrev pub group_names : List Bool → List Mark → Namings
 group_names raw_groups marks k address =
     let group = mark_group (slice_get marks k) in
     name_in_group (get_or raw_groups group false) marks group address
+
+name_in_group-null : (raw : Bool) (marks : List Mark) (group : ℕ) → name_in_group raw marks group 0 ≡ None
+unfolding target_in_group
+name_in_group-null true marks group = refl
+name_in_group-null false marks group = refl
+
+-- the address 0 names nothing
+pub group_names-null : (raw_groups : List Bool) (marks : List Mark) (k : ℕ) → group_names raw_groups marks k 0 ≡ None
+group_names-null raw_groups marks k =
+    let group = mark_group (slice_get marks k) in
+    name_in_group-null (get_or raw_groups group false) marks group

@@ -1,5 +1,5 @@
 -- The views and the kinds of nodes, where what addresses name from each node is given.
-use Rattle.std.specs.Prelude.{ℕ, ◌==◌, if◌then◌else◌, List, [], map, flat_map, slice_get, Option, Some, None}
+use Rattle.std.specs.Prelude.{◌≡◌, refl, ℕ, ◌==◌, if◌then◌else◌, List, [], map, flat_map, slice_get, Option, Some, None}
 use Rattle.std.specs.List.{enumerate_from}
 use Rattle.bl_format.specs.declared.file.Header.{Header}
 use Rattle.bl_format.specs.declared.file.Head.{Head}
@@ -23,6 +23,11 @@ mark_group (Some m) = m.group
 -- what addresses name from nodes by what they are compared with in each: that in the group of the node
 abbrev pub table_names : List Mark → Namings
 table_names marks k = target_of marks (mark_group (slice_get marks k))
+
+-- the address 0 names nothing
+pub table_names-null : (marks : List Mark) (k : ℕ) → table_names marks k 0 ≡ None
+unfolding target_of
+table_names-null marks k = refl
 
 -- the cells of each element of a struct node, in the bytes of its file
 abbrev pub named_cells : Naming Target → Header → Catalogue → List ℕ → Head → List (List Cell)

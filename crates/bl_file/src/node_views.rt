@@ -12,7 +12,7 @@ ghost use Rattle.bl_file.specs.Views.{IsSight, StaysRead, AreInside, speakers_vi
 use crate::Payload;
 use crate::speakers::Speaker;
 use crate::targets::Targets;
-use crate::views::{Sight, null_named, speakers_views};
+use crate::views::{Sight, speakers_views};
 use bl_blocks::head_size;
 use bl_format::{Head, Header, View};
 use bl_shelf::{Shelf, ShelfFault};
@@ -90,7 +90,6 @@ fn node_said<S: Shelf, P: Payload, T: Targets>(
     if speakers.is_empty() {
         return Ok(());
     }
-    let _null = null_named(targets, number);
     let (bytes, _) = buffer.split_at_mut(sight.layout.length(node.index) as usize);
     elements_said(
         sight, targets, number, node, speakers, payload, shelf, bytes, seen,
@@ -121,7 +120,6 @@ fn elements_said<S: Shelf, P: Payload, T: Targets>(
     requires small { P.file_size payload.old < 2 ^ 63 }
     requires number { number < T.count targets.now }
     requires node { IsNodeIn sight.now.header.now sight.now.layout.now.catalogue (P.file_size payload.old) node.now }
-    requires null { T.names targets.now number 0 ≡ None }
     requires index { node.now.index ≢ 0 }
     requires heard { All (IsHeard (struct_length sight.now.layout.now.catalogue node.now.index)) speakers.now }
     requires bytes { length bytes.old ≡ struct_length sight.now.layout.now.catalogue node.now.index }
@@ -165,7 +163,6 @@ fn element_said<S: Shelf, P: Payload, T: Targets>(
 ) -> Result<(), ShelfFault>
     requires number { number < T.count targets.now }
     requires inside { at + length bytes.old ≤ P.file_size payload.old }
-    requires null { T.names targets.now number 0 ≡ None }
     requires heard { All (IsHeard (length bytes.old)) speakers.now }
     requires seen { AreInside sight.now.nodes.now seen.old.items }
     requires held { IsHeldAnd (S.told shelf.old) (P.file_name payload.old) (P.agrees payload.old) }

@@ -21,13 +21,15 @@ pub trait Targets {
     fn target(&self, node: u32, address: u64) -> Option<u32>
         requires { node < count self.now }
         ensures target { result ≡ names self.now node address }
-        ensures inside { IfSome result (λ to. to < count self.now) }
-        ensures null { address ≡ 0 → result ≡ None };
+        ensures inside { IfSome result (λ to. to < count self.now) };
 
     /// Whether it is known that no address names anything from a node.
     fn is_silent(&self, node: u32) -> bool
         requires { node < count self.now }
         ensures { result ≡ true → (address : ℕ) → names self.now node address ≡ None };
+
+    /// The address 0 names nothing.
+    ghost null_names_nothing: { (t : Self) (node : ℕ) → names t node 0 ≡ None };
 }
 
 /// What addresses name from the nodes of a file.
@@ -38,11 +40,13 @@ pub struct FileTargets<'a> {
 
 impl<'a> Targets for FileTargets<'a> {
     ghost use Rattle.std.specs.Prelude.{length};
-    ghost use Rattle.bl_file.specs.Seen.{table_names};
+    ghost use Rattle.bl_file.specs.Seen.{table_names, table_names-null};
 
     ghost count = { λ t. length t.table.now };
 
     ghost names = { λ t. table_names t.table.now };
+
+    ghost null_names_nothing = { λ t. table_names-null t.table.now };
 
     fn target(&self, node: u32, address: u64) -> Option<u32> {
         if address == 0 {
@@ -67,11 +71,13 @@ pub struct GroupTargets<'a> {
 
 impl<'a> Targets for GroupTargets<'a> {
     ghost use Rattle.std.specs.Prelude.{length};
-    ghost use Rattle.bl_file.specs.Groups.{group_names};
+    ghost use Rattle.bl_file.specs.Groups.{group_names, group_names-null};
 
     ghost count = { λ t. length t.table.now };
 
     ghost names = { λ t. group_names t.raw_groups.items t.table.now };
+
+    ghost null_names_nothing = { λ t. group_names-null t.raw_groups.items t.table.now };
 
     fn target(&self, node: u32, address: u64) -> Option<u32> {
         let group = self.table.group_of(node);

@@ -30,7 +30,6 @@ pub fn speakers_views<T: Targets>(
     seen: &mut Vec<View>,
 ) -> Result<(), AllocError>
     requires number { number < T.count targets.now }
-    requires null { T.names targets.now number 0 ≡ None }
     requires heard { All (IsHeard (length bytes.now)) speakers.now }
     ensures { OnOk result (seen.new.items ≡ seen.old.items
         ++ speakers_views sight.now.nodes.now (T.names targets.now number)
@@ -52,7 +51,6 @@ fn speaker_views<T: Targets>(
     seen: &mut Vec<View>,
 ) -> Result<(), AllocError>
     requires number { number < T.count targets.now }
-    requires null { T.names targets.now number 0 ≡ None }
     requires heard { IsHeard (length bytes.now) speaker }
     ensures { OnOk result (seen.new.items ≡ seen.old.items
         ++ speaker_views sight.now.nodes.now (T.names targets.now number)
@@ -69,21 +67,12 @@ fn speaker_views<T: Targets>(
 // What an address names from a node, where it is a raw node. Nothing is looked up at the address 0.
 fn named<T: Targets>(nodes: &[Head], targets: &T, number: u32, address: u64) -> Option<u32>
     requires number { number < T.count targets.now }
-    requires null { T.names targets.now number 0 ≡ None }
     ensures { result ≡ raw_target nodes.now (T.names targets.now number address) }
 {
     if address == 0 {
         return None;
     }
     raw_target(nodes, targets.target(number, address))
-}
-
-/// The address 0 names nothing.
-pub fn null_named<T: Targets>(targets: &T, number: u32) -> Option<u32>
-    requires { number < T.count targets.now }
-    ensures { T.names targets.now number 0 ≡ None }
-{
-    targets.target(number, 0)
 }
 
 // Adds a view of what is named, if anything is.
