@@ -1,4 +1,4 @@
-ghost use Rattle.std.specs.Prelude.{◌≡◌, ◌<◌, ◌^◌};
+ghost use Rattle.std.specs.Prelude.{◌≡◌, ◌<◌, ◌^◌, None};
 ghost use Rattle.bl_format.specs.Graph.{Target, Naming};
 ghost use Rattle.bl_selection.specs.Written.{address_of};
 
@@ -7,10 +7,11 @@ pub trait Images {
     /// What an address names in the output.
     ghost names: { Self → Naming Target };
 
-    /// The address that what an address names has in the output: it fits either width, and null
-    /// stays null.
+    /// The address that what an address names has in the output: it fits either width.
     fn image(&self, address: u64) -> u64
         ensures image { result ≡ address_of (names self.now address) }
-        ensures null { address ≡ 0 → result ≡ 0 }
         ensures small { result < 2 ^ 32 };
+
+    /// The address 0 names nothing, so that null stays null.
+    ghost null_names_nothing: { (i : Self) → names i 0 ≡ None };
 }

@@ -42,6 +42,8 @@ impl<'a, T: Targets> NodeImages<'a, T> {
 impl<'a, T: Targets> Images for NodeImages<'a, T> {
     ghost names = { λ i. T.names i.0 i.1 };
 
+    ghost null_names_nothing = { λ i. T.null_names_nothing i.0 i.1 };
+
     fn image(&self, address: u64) -> u64 {
         match self.targets.target(self.node, address) {
             Some(node) => node_address(node),

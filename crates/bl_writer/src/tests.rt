@@ -1,4 +1,4 @@
-ghost use Rattle.std.specs.Prelude.{◌==◌, if◌then◌else◌, Some, None};
+ghost use Rattle.std.specs.Prelude.{◌==◌, if◌then◌else◌, Some, None, refl};
 
 use crate::element::rewrite_elements;
 use crate::{Images, plans_of};
@@ -20,6 +20,8 @@ struct OneName;
 
 impl Images for OneName {
     ghost names = { λ _ address. if address == 0x4142 then Some 1 else None };
+
+    ghost null_names_nothing = { λ _. refl };
 
     fn image(&self, address: u64) -> u64 {
         if address == 0x4142 { 32 } else { 0 }
