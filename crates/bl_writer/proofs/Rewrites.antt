@@ -1,5 +1,5 @@
 -- An element that is rewritten where it stands, step by step, is what its plan says.
-use Rattle.std.proofs.Common.{◌≡◌, ℕ, zero, suc, ◌+◌, ◌-◌, ◌*◌, ◌≤◌, ◌<◌, All, List, [], ◌∷◌, ◌++◌, length, take, drop, get_or, refl, sym, ap, subst, ◌∙◌, append_assoc, append-nil, arith, drop_of_length-le, mul-le-mul_right}
+use Rattle.std.proofs.Common.{◌≡◌, ℕ, zero, suc, ◌+◌, ◌-◌, ◌*◌, ◌≤◌, ◌<◌, All, List, [], ◌∷◌, ◌++◌, length, take, drop, get_or, refl, sym, ap, subst, ◌∙◌, append_assoc, append-nil, arith, None, drop_of_length-le, mul-le-mul_right}
 use Rattle.std.proofs.lemmas.List.{take_at, drop-drop, take-append-drop, length-append, length-replicate, length-take-le, drop_more}
 use Rattle.std.proofs.lemmas.Slice.{drop-append-drop}
 use Rattle.bl_num.specs.declared.number.Order.{Order}
@@ -135,15 +135,28 @@ module _ (names : Naming Target) (order : Order) where
       ∙ behind_put x.at (slots_image src x n) dst (x.at + n * x.size) (omega (arith, long)) (omega (arith, long, most, fits))
 
   -- one pointer more, which was read where it is written
-  pub slots_more : (x : Slots) (k address image : ℕ) (src dst new : List ℕ) → x.at + x.count * x.size ≤ length src → k < x.count
-      → address ≡ number_of order x.size (part dst (x.at + k * x.size) x.size) → image ≡ address_of (names address)
-      → dst ≡ with_slots names order src x k src → new ≡ replaced_at (x.at + k * x.size) (bytes_of order x.size image) dst
+  pub slots_more : (x : Slots) (k : ℕ) (src dst new : List ℕ) → x.at + x.count * x.size ≤ length src → k < x.count
+      → dst ≡ with_slots names order src x k src → new ≡ replaced_at (x.at + k * x.size) (slot_image names order dst x k) dst
       → new ≡ with_slots names order src x (k + 1) src
-  slots_more x k address image src dst new fits lt read named before is =
+  slots_more x k src dst new fits lt before is =
       let place : ℕ = x.at + k * x.size in
       let here : drop place dst ≡ drop place src = ap (drop place) before ∙ slots_ahead src x k src fits (omega (arith, lt)) in
-      with_slots-next names order src x k address image src dst new
-      (read ∙ ap (λ (b : List ℕ). number_of order x.size (take x.size b)) here) named before is
+      let address : ℕ = number_of order x.size (part dst place x.size) in
+      with_slots-next names order src x k address (address_of (names address)) src dst new
+      (ap (λ (b : List ℕ). number_of order x.size (take x.size b)) here) refl before is
+
+  -- null stays, where it is written in the bytes in which it was read
+  pub null_stays : (x : Slots) (k address : ℕ) (dst : List ℕ) → x.at + x.count * x.size ≤ length dst → k < x.count → names 0 ≡ None
+      → address ≡ number_of order x.size (part dst (x.at + k * x.size) x.size)
+      → bytes_of order x.size address ≡ part dst (x.at + k * x.size) x.size → address ≡ 0
+      → dst ≡ replaced_at (x.at + k * x.size) (slot_image names order dst x k) dst
+  null_stays x k address dst fits lt nothing read kept is =
+      let place : ℕ = x.at + k * x.size in
+      let own : List ℕ = part dst place x.size in
+      let image : address_of (names (number_of order x.size own)) ≡ address =
+      ap (λ (a : ℕ). address_of (names a)) (sym read ∙ is) ∙ ap (λ (o : Target). address_of o) nothing ∙ sym is in
+      run_stays place x.size dst (slot_inside x.at x.size x.count k (length dst) fits lt)
+      ∙ ap (λ (b : List ℕ). replaced_at place b dst) (sym (ap (bytes_of order x.size) image ∙ kept))
 
   -- ---- step by step
 

@@ -1,9 +1,10 @@
 -- The value that was read of a leaf's element is written in the bytes of which it was read, where it isn't a pointer.
-use Rattle.std.proofs.Common.{Fits, w8, ◌≡◌, ℕ, ◌-◌, ◌*◌, ◌%◌, ◌^◌, ◌<◌, Bool, true, false, cond, All, List, length, get_or, refl, ap, ◌∙◌, arith, inl, inr}
+use Rattle.std.proofs.Common.{Fits, w8, ◌≡◌, ℕ, ◌-◌, ◌*◌, ◌%◌, ◌^◌, ◌<◌, Bool, true, false, cond, All, List, length, drop, get_or, refl, sym, ap, subst, ◌+◌, ◌≤◌, ◌∙◌, arith, inl, inr}
 use Rattle.std.specs.Prelude.{◌&&◌, nat_le, pos, negsuc}
 use Rattle.std.proofs.Math.Nat.{mod-lt, mod-eq_of_lt}
 use Rattle.std.proofs.lemmas.Nat.{pow_pos}
 use Rattle.std.proofs.lemmas.List.{take_all, get_or_default}
+use Rattle.std.proofs.lemmas.List.Elements.{All-take, All-drop}
 use Rattle.bl_num.specs.declared.number.Order.{Order}
 use Rattle.bl_num.specs.declared.number.Whole.{Whole}
 use Rattle.bl_num.specs.Numbers.{IsWholeLength, number_of, bytes_of, number_meant, bits_of}
@@ -11,9 +12,11 @@ use Rattle.bl_num.proofs.BytesOf.{number_of-lt}
 use Rattle.bl_num.proofs.BytesBack.{bytes_of-number_of}
 use Rattle.bl_format.specs.declared.layout.Kind.{Kind}
 use Rattle.bl_format.specs.declared.layout.Kind.TheVariants as kinds
+use Rattle.bl_format.specs.Words.{part}
 use Rattle.bl_format.specs.Graph.{Target, Naming, value_by}
 use Rattle.bl_selection.specs.Written.{value_written}
 use Rattle.bl_writer.specs.Image.{is_pointer, IsOfKind}
+use Rattle.bl_writer.proofs.Overlays.{length-part}
 
 -- ---- numbers
 
@@ -44,6 +47,15 @@ number_kept : (order : Order) (n : ℕ) (bytes : List ℕ)
     → All (λ b. b < 256) bytes → length bytes ≡ n → bytes_of order n (number_of order n bytes) ≡ bytes
 number_kept order n bytes all len =
     bytes_of-number_of order n bytes all (omega (arith, len)) ∙ take_all n bytes (omega (arith, len))
+
+-- and so are some that stand among others
+pub number_among_kept : (order : Order) (bytes own : List ℕ) (at n v : ℕ) → All (λ b. b < 256) bytes → at + n ≤ length bytes
+    → own ≡ part bytes at n → v ≡ number_of order (length own) own → bytes_of order n v ≡ part bytes at n
+number_among_kept order bytes own at n v all fits is read =
+    let long : length own ≡ n = ap (λ (b : List ℕ). length b) is ∙ length-part bytes at n fits in
+    let below : All (λ b. b < 256) own =
+    subst (All (λ b. b < 256)) (sym is) (All-take (λ b. b < 256) n (drop at bytes) (All-drop (λ b. b < 256) at bytes all)) in
+    ap (bytes_of order n) (read ∙ ap (λ (m : ℕ). number_of order m own) long) ∙ number_kept order n own below long ∙ is
 
 whole_kept : (order : Order) (whole : Whole) (bytes : List ℕ)
     → IsWholeLength whole.bytes → All (λ b. b < 256) bytes → length bytes ≡ whole.bytes

@@ -1,9 +1,8 @@
 ghost use Rattle.std.specs.Prelude.{◌≡◌, ◌<◌, ◌≤◌, ◌+◌, ◌*◌, All, length};
 ghost use Rattle.bl_num.specs.Numbers.{IsWholeLength, number_of, bytes_of};
 ghost use Rattle.bl_format.specs.Words.{part};
-ghost use Rattle.bl_selection.specs.Written.{address_of};
 ghost use Rattle.bl_members.specs.Leaf.{replaced_at};
-ghost use Rattle.bl_writer.specs.Plans.{PlanFits, StepFits, all_planned, cleared, planned, step_end, step_start, with_slots, with_step};
+ghost use Rattle.bl_writer.specs.Plans.{PlanFits, StepFits, all_planned, cleared, planned, slot_image, step_end, step_start, with_slots, with_step};
 
 use crate::plans::{Plan, Slots, Step};
 use bl_num::{Order, read_whole, write_whole};
@@ -25,18 +24,16 @@ pub(crate) fn rewrite_elements<I: Images>(
     ensures rewritten { dst.new ≡ all_planned plan.now (I.names images.now) order len count dst.old }
     ensures length { length dst.new ≡ length dst.old }
 {
-    let null = images.image(0);
     for element in 0..count as usize {
         let (_, rest) = dst.split_at_mut(element * len);
         let (own, _) = rest.split_at_mut(len);
-        rewrite_element(plan, order, images, null, own);
+        rewrite_element(plan, order, images, own);
     }
 }
 
-// The same of one element. The image of null is known.
-fn rewrite_element<I: Images>(plan: &Plan, order: Order, images: &I, null: u64, dst: &mut [u8])
+// The same of one element.
+fn rewrite_element<I: Images>(plan: &Plan, order: Order, images: &I, dst: &mut [u8])
     requires fits { PlanFits (length dst.old) plan.now }
-    requires null { null ≡ address_of (I.names images.now 0) }
     ensures rewritten { dst.new ≡ planned plan.now (I.names images.now) order dst.old }
     ensures length { length dst.new ≡ length dst.old }
 {
@@ -44,7 +41,7 @@ fn rewrite_element<I: Images>(plan: &Plan, order: Order, images: &I, null: u64, 
     let steps = plan.steps.as_slice();
     for step in steps {
         clear(done, step_start(*step), dst);
-        rewrite_step(*step, order, images, null, dst);
+        rewrite_step(*step, order, images, dst);
         done = step_end(*step);
     }
     clear(done, dst.len(), dst);
@@ -88,52 +85,56 @@ fn clear(from: usize, to: usize, dst: &mut [u8])
 
 // Takes one step where the bytes stand that it is to copy: those of a run stay.
 #[tactic(auto, unfolding(crate::specs::Plans::with_step))]
-fn rewrite_step<I: Images>(step: Step, order: Order, images: &I, null: u64, dst: &mut [u8])
+fn rewrite_step<I: Images>(step: Step, order: Order, images: &I, dst: &mut [u8])
     requires fits { StepFits (length dst.old) step }
-    requires null { null ≡ address_of (I.names images.now 0) }
     ensures rewritten { dst.new ≡ with_step (I.names images.now) order dst.old step dst.old }
     ensures length { length dst.new ≡ length dst.old }
 {
     match step {
         Step::Bytes(_) => {}
-        Step::Pointers(slots) => rewrite_slots(slots, order, images, null, dst),
+        Step::Pointers(slots) => rewrite_slots(slots, order, images, dst),
     }
 }
 
 // Writes for each of some pointers the address in the output in its place.
-fn rewrite_slots<I: Images>(slots: Slots, order: Order, images: &I, null: u64, dst: &mut [u8])
+fn rewrite_slots<I: Images>(slots: Slots, order: Order, images: &I, dst: &mut [u8])
     requires fits { slots.at + slots.count * slots.size ≤ length dst.old }
     requires number { IsWholeLength slots.size }
-    requires null { null ≡ address_of (I.names images.now 0) }
     ensures rewritten { dst.new ≡ with_slots (I.names images.now) order dst.old slots slots.count
         dst.old }
     ensures length { length dst.new ≡ length dst.old }
 {
     for k in 0..slots.count {
-        let address = read_slot(slots, order, dst, k);
-        write_slot(slots, order, k, image_of(images, null, address), dst);
+        rewrite_slot(slots, order, images, k, dst);
     }
 }
 
-// The image of an address, where that of null is known.
-fn image_of<I: Images>(images: &I, null: u64, address: u64) -> u64
-    requires { null ≡ address_of (I.names images.now 0) }
-    ensures { result ≡ address_of (I.names images.now address) }
+// Writes for one of some pointers the address in the output in its place. Null is zeros there as
+// here, so it stays.
+fn rewrite_slot<I: Images>(slots: Slots, order: Order, images: &I, k: u32, dst: &mut [u8])
+    requires fits { slots.at + slots.count * slots.size ≤ length dst.old }
+    requires k { k < slots.count }
+    requires number { IsWholeLength slots.size }
+    ensures rewritten { dst.new ≡ replaced_at (slots.at + k * slots.size)
+        (slot_image (I.names images.now) order dst.old slots k) dst.old }
+    ensures length { length dst.new ≡ length dst.old }
 {
+    let address = read_slot(slots, order, dst, k);
     if address == 0 {
-        null
-    } else {
-        images.image(address)
+        return;
     }
+    write_slot(slots, order, k, images.image(address), dst);
 }
 
-// The address in one of some pointers.
+// The address in one of some pointers, which is written in the same bytes.
 fn read_slot(slots: Slots, order: Order, src: &[u8], k: u32) -> u64
     requires fits { slots.at + slots.count * slots.size ≤ length src.now }
     requires k { k < slots.count }
     requires number { IsWholeLength slots.size }
-    ensures { result ≡ number_of order slots.size
+    ensures address { result ≡ number_of order slots.size
         (part src.now (slots.at + k * slots.size) slots.size) }
+    ensures bytes { bytes_of order slots.size result
+        ≡ part src.now (slots.at + k * slots.size) slots.size }
 {
     read_whole(order, &src[slot_place(slots, k)..][..slots.size as usize])
 }

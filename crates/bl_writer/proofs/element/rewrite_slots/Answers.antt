@@ -9,7 +9,7 @@ loop-k-init g c = (refl, refl)
 
 pub loop-k-preserved : goal.loop-k-preserved
 loop-k-preserved g c = (
-  slots_more (g.I.Images.names c.args.images.now) c.args.order c.args.slots c.loop-k.k c.read_slot-address.result c.image_of.result c.args.dst.now c.loop-k.dst c.write_slot.new.dst
-      c.requires.fits c.loop-k-test.true c.read_slot-address.ensures c.image_of.ensures c.loop-k.invariant.0 c.write_slot.ensures.written,
-  c.write_slot.ensures.length ∙ c.loop-k.invariant.1,
+  slots_more (g.I.Images.names c.args.images.now) c.args.order c.args.slots c.loop-k.k c.args.dst.now c.loop-k.dst c.rewrite_slot.new.dst
+      c.requires.fits c.loop-k-test.true c.loop-k.invariant.0 c.rewrite_slot.ensures.rewritten,
+  c.rewrite_slot.ensures.length ∙ c.loop-k.invariant.1,
 )
