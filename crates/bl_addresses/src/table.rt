@@ -82,22 +82,12 @@ impl Table {
     pub fn resolve(&self, group: u32, address: u64) -> Option<u32>
         ensures { result ≡ target_of self.now group address }
     {
-        if address == 0 {
-            return None;
+        let own = self.resolve_in_group(group, address);
+        if own.is_some() || address == 0 {
+            return own;
         }
-        let place = Place {
-            part: group,
-            address,
-        };
-        let span = self.span_of(group);
-        match last_at(&self.nodes, span, place) {
-            Some(node) => Some(node),
-            None => last_at(
-                &self.ids,
-                self.buckets.span_of(address, self.ids.len()),
-                Place { part: 0, address },
-            ),
-        }
+        let span = self.buckets.span_of(address, self.ids.len());
+        last_at(&self.ids, span, Place { part: 0, address })
     }
 
     /// The node of a group that an address names, where IDs of other groups aren't looked at.
@@ -105,13 +95,13 @@ impl Table {
     pub fn resolve_in_group(&self, group: u32, address: u64) -> Option<u32>
         ensures { result ≡ target_in_group self.now group address }
     {
+        if address == 0 {
+            return None;
+        }
         let place = Place {
             part: group,
             address,
         };
-        if place.address == 0 {
-            return None;
-        }
         last_at(&self.nodes, self.span_of(group), place)
     }
 

@@ -1,20 +1,24 @@
 use Rattle.std.proofs.Common.{sym, subst}
-use Rattle.bl_addresses.specs.declared.marks.Scope.TheVariants.{Group, File}
+use Rattle.bl_addresses.specs.declared.marks.Scope.TheVariants.{File}
 use Rattle.bl_addresses.specs.Order.{IsOrder}
-use Rattle.bl_addresses.proofs.TargetLemmas.{target_in_group, target_in_file}
+use Rattle.bl_addresses.proofs.TargetLemmas.{target_in_own, target_at_null, target_in_file}
 use Rattle.bl_addresses.proofs.table.Table.resolve.Goals as goal
+use Rattle.bl_addresses.proofs.table.Table.resolve.Goals.{then-is_some-via-then-is_some, then-is_some-via-else-is_some+then-address-eq0}
 
-pub returns-in-Some : goal.returns-in-Some
-returns-in-Some c =
-    let marks = c.self.inside.marks.items in
-    let nodes = subst (λ rows. IsOrder Group marks rows) (sym c.deref.ensures.value) c.self.invariant.nodes_sorted in
-    target_in_group marks c.args.self.now c.args.group c.args.address c.in-Some.node
-    c.self.view_is c.if-address-eq0.false (c.in-Some.ensures Group marks nodes)
+pub returns-then-is_some : goal.returns-then-is_some
+returns-then-is_some c =
+    let own = c.resolve_in_group-own in
+    elim c.then-is_some.branch [
+      | then-is_some-via-then-is_some w ↦
+          target_in_own c.args.self.now c.args.group c.args.address own.result own.ensures w.if-is_some.ensures
+      | then-is_some-via-else-is_some+then-address-eq0 w ↦
+          target_at_null c.args.self.now c.args.group c.args.address own.result own.ensures w.if-address-eq0.true
+    ]
 
-pub returns-in-None : goal.returns-in-None
-returns-in-None c =
+pub returns : goal.returns
+returns c =
     let marks = c.self.inside.marks.items in
-    let nodes = subst (λ rows. IsOrder Group marks rows) (sym c.deref.ensures.value) c.self.invariant.nodes_sorted in
-    let ids = subst (λ rows. IsOrder File marks rows) (sym c.deref-in-None.ensures.value) c.self.invariant.ids_sorted in
-    target_in_file marks c.args.self.now c.args.group c.args.address c.last_at-in-None.result
-    c.self.view_is c.if-address-eq0.false (c.in-None.ensures Group marks nodes) (c.last_at-in-None.ensures File marks ids)
+    let own = c.resolve_in_group-own in
+    let ids = subst (λ rows. IsOrder File marks rows) (sym c.deref.ensures.value) c.self.invariant.ids_sorted in
+    target_in_file marks c.args.self.now c.args.group c.args.address own.result c.last_at.result c.self.view_is
+    own.ensures c.if-is_some.ensures c.if-address-eq0.false (c.last_at.ensures File marks ids)

@@ -8,4 +8,4 @@ pub returns : goal.returns
 returns c =
     let nodes = subst (λ rows. IsOrder Group c.self.inside.marks.items rows) (sym c.deref.ensures.value) c.self.invariant.nodes_sorted in
     target_among c.self.inside.marks.items c.args.self.now c.args.group c.args.address c.last_at.result
-    c.self.view_is c.if-place-eq0.false (c.last_at.ensures Group c.self.inside.marks.items nodes)
+    c.self.view_is c.if-address-eq0.false (c.last_at.ensures Group c.self.inside.marks.items nodes)
