@@ -11,6 +11,14 @@ const ADDRESSES: [u64; 7] = [0x50, 0x10, 0x20, 0x20, 0x30, 0x20, 0x10];
 
 const IDS: [bool; 7] = [false, true, false, false, true, false, false];
 
+// Groups whose nodes don't stand side by side, with an address that two nodes of a group have, two
+// IDs of other groups, and one that an ID has behind a node of another group.
+const MIXED_GROUPS: [u32; 7] = [1, 0, 1, 2, 0, 1, 2];
+
+const MIXED_ADDRESSES: [u64; 7] = [0x20, 0x20, 0x10, 0x30, 0x20, 0x20, 0x10];
+
+const MIXED_IDS: [bool; 7] = [true, true, false, true, false, false, true];
+
 fn table(rt: &HostRuntime) -> Result<Table, NoMemory>
     ensures { IfOk result (λ table. length table ≡ 7) }
 {
@@ -42,6 +50,26 @@ fn names_nodes(rt: HostRuntime) -> Result<(), NoMemory> {
     ] {
         assert_eq!(rt; table.resolve(group, address), want);
         assert_eq!(rt; table.resolve_in_group(group, address), among);
+    }
+    let mixed = Table::new(rt.alloc(), &MIXED_GROUPS, &MIXED_ADDRESSES, &MIXED_IDS)?;
+    for (group, address, want, among) in [
+        (1, 0, None, None),
+        // The last node of the group, with nodes of others between.
+        (0, 0x20, Some(4), Some(4)),
+        (1, 0x20, Some(5), Some(5)),
+        // A node of the group before an ID of another.
+        (1, 0x10, Some(2), Some(2)),
+        (2, 0x10, Some(6), Some(6)),
+        (2, 0x30, Some(3), Some(3)),
+        // The last ID at the address.
+        (2, 0x20, Some(1), None),
+        (3, 0x20, Some(1), None),
+        (0, 0x10, Some(6), None),
+        (1, 0x30, Some(3), None),
+        (0, 0x40, None, None),
+    ] {
+        assert_eq!(rt; mixed.resolve(group, address), want);
+        assert_eq!(rt; mixed.resolve_in_group(group, address), among);
     }
     Ok(())
 }
