@@ -1,5 +1,5 @@
 -- When an element is the last one that passes.
-use Rattle.std.proofs.Common.{◌≡◌, ◌<◌, ℕ, zero, suc, ◌+◌, Bool, true, false, List, [], ◌∷◌, length, get_or, map, Some, None, refl, ap, ◌∙◌, arith}
+use Rattle.std.proofs.Common.{◌≡◌, ◌<◌, ℕ, zero, suc, ◌+◌, Bool, true, false, List, [], ◌∷◌, length, get_or, Some, None, refl, ap, ◌∙◌, arith}
 use Rattle.bl_format.specs.Words.{last_from, last_place}
 
 -- no element passes, where the first stands at place i
@@ -38,14 +38,3 @@ pub last_place-some : {X : Type 0} (p : X → Bool) (xs : List X) (k : ℕ) → 
 last_place-some p xs k lt here after =
     let at : 0 + k ≡ k = omega arith in
     last_from-some p 0 xs k lt here after ∙ ap (λ n. Some n) at
-
--- the same of images, where the first stands at place i
-pub last_from-map : {A B : Type 0} (p : B → Bool) (f : A → B) (i : ℕ) (xs : List A)
-    → last_from p i (map f xs) ≡ last_from (λ x. p (f x)) i xs
-last_from-map p f i [] = refl
-last_from-map p f i (x ∷ xs) = rw (last_from-map p f (suc i) xs) refl
-
--- the last image that passes is that of the last element whose image passes
-pub last_place-map : {A B : Type 0} (p : B → Bool) (f : A → B) (xs : List A)
-    → last_place p (map f xs) ≡ last_place (λ x. p (f x)) xs
-last_place-map p f xs = last_from-map p f 0 xs

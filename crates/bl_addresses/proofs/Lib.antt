@@ -5,3 +5,4 @@ pub mod OrderLemmas
 pub mod SpanLemmas
 pub mod SearchLemmas
 pub mod TargetLemmas
+pub mod SeenLemmas

@@ -1,15 +1,17 @@
 -- Which rows a scope has, and how they are sorted.
-use Rattle.std.proofs.Common.{◌≡◌, ◌<◌, ◌≤◌, inl, inr, ℕ, ◌∙◌, Bool, true, false, List, length, get_or, refl, arith}
+use Rattle.std.proofs.Common.{◌≡◌, ◌<◌, ◌≤◌, inl, inr, ℕ, ◌+◌, ◌∙◌, Bool, true, false, List, [], ◌∷◌, ◌++◌, length, get_or, refl, sym, subst, arith}
 use Rattle.std.specs.Prelude.{All, Contains, not}
 use Rattle.std.specs.Ordering.{is_lt}
 use Rattle.std.specs.List.{IsAllAdjacentAnswer}
 use Rattle.std.specs.List.Sorted.{IsPartitionedBy, IsPermutation}
+use Rattle.std.proofs.lemmas.Bool.{cases_lt}
+use Rattle.std.proofs.lemmas.List.Elements.{All-push, Contains-append_left, Contains-push}
 use Rattle.std.proofs.lemmas.List.Sorted.{sorted_far, ranks_by, All-permutation, Contains-permutation}
-use Rattle.bl_addresses.specs.declared.marks.Mark.{Mark}
+use Rattle.bl_format.specs.Nodes.{Mark}
 use Rattle.bl_addresses.specs.declared.marks.Place.{Place}
 use Rattle.bl_addresses.specs.declared.marks.Row.{Row}
 use Rattle.bl_addresses.specs.declared.marks.Scope.{Scope}
-use Rattle.bl_addresses.specs.Marks.{mark_at, is_up_to, place_of, row_of}
+use Rattle.bl_addresses.specs.Marks.{mark_at, is_member, is_up_to, place_of, row_of}
 use Rattle.bl_addresses.specs.Order.{IsMember, IsRow, AreMembers, AreSorted, key, key_cmp}
 use Rattle.bl_addresses.proofs.PlaceLemmas.{key_total, IsNoLater, no_later, IsUpTo, up_to_means, up_to_from}
 
@@ -17,6 +19,52 @@ use Rattle.bl_addresses.proofs.PlaceLemmas.{key_total, IsNoLater, no_later, IsUp
 pub record HasMembersBelow (scope : Scope) (marks : List Mark) (k : ℕ) (rows : List Row) : Type 0 where
   pub inside : All (IsRow scope marks) rows
   pub whole : (n : ℕ) → n < k → IsMember scope marks n → Contains rows (row_of scope (mark_at marks n) n)
+
+-- with the row of node k they are those of the nodes up to it
+pub members_push : (scope : Scope) (marks : List Mark) (k : ℕ) (rows : List Row) (m : Mark) → k < length marks
+    → m ≡ mark_at marks k → is_member scope m ≡ true
+    → HasMembersBelow scope marks k rows → HasMembersBelow scope marks (k + 1) (rows ++ row_of scope m k ∷ [])
+members_push scope marks k rows m lt is passes below =
+    subst (λ (n : Mark). HasMembersBelow scope marks (k + 1) (rows ++ row_of scope n k ∷ [])) (sym is) more
+  where
+    own : Row
+    own = row_of scope (mark_at marks k) k
+
+    member : is_member scope (mark_at marks k) ≡ true
+    member = subst (λ n. is_member scope n ≡ true) is passes
+
+    more : HasMembersBelow scope marks (k + 1) (rows ++ own ∷ [])
+    more = record {
+      inside = All-push (IsRow scope marks) rows own below.inside ((lt, member), refl);
+      whole = λ n less of. elim (cases_lt n k) [
+        | inl before ↦ Contains-append_left rows (own ∷ []) _ (below.whole n before of)
+        | inr le ↦ (let same : k ≡ n = omega (arith, le, less) in
+            subst (λ j. Contains (rows ++ own ∷ []) (row_of scope (mark_at marks j) j)) same (Contains-push rows own))
+      ];
+    }
+
+-- where node k isn't looked up they are those of the nodes up to it already
+pub members_skip : (scope : Scope) (marks : List Mark) (k : ℕ) (rows : List Row) (m : Mark)
+    → m ≡ mark_at marks k → is_member scope m ≡ false
+    → HasMembersBelow scope marks k rows → HasMembersBelow scope marks (k + 1) rows
+members_skip scope marks k rows m is fails below = record {
+  inside = below.inside;
+  whole = λ n less of. elim (cases_lt n k) [
+    | inl before ↦ below.whole n before of
+    | inr le ↦ (let same : n ≡ k = omega (arith, le, less) in
+        let own : is_member scope (mark_at marks k) ≡ true = subst (λ j. is_member scope (mark_at marks j) ≡ true) same of.1 in
+        let none : is_member scope (mark_at marks k) ≡ false = subst (λ n. is_member scope n ≡ false) is fails in
+        absurd (cc (own, none)))
+  ];
+}
+
+-- the rows of the nodes below the last one are all
+pub members_all : (scope : Scope) (marks : List Mark) (k : ℕ) (rows : List Row) → length marks ≤ k
+    → HasMembersBelow scope marks k rows → AreMembers scope marks rows
+members_all scope marks k rows le below = record {
+  inside = below.inside;
+  whole = λ n of. (let lt = of.0 in below.whole n (omega (arith, lt, le)) of);
+}
 
 -- rows in another order are those of the same nodes
 pub members_moved : (scope : Scope) (marks : List Mark) (rows moved : List Row) → IsPermutation rows moved

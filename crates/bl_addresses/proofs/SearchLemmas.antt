@@ -4,8 +4,8 @@ use Rattle.std.specs.Prelude.{◌&&◌}
 use Rattle.std.specs.List.Sorted.{IsPartitionPoint}
 use Rattle.std.proofs.lemmas.Bool.{cases_lt}
 use Rattle.std.proofs.lemmas.List.{get_or_default, length-take-le, get_or-take}
+use Rattle.bl_format.specs.Nodes.{Mark}
 use Rattle.bl_format.specs.Words.{last_place}
-use Rattle.bl_addresses.specs.declared.marks.Mark.{Mark}
 use Rattle.bl_addresses.specs.declared.marks.Place.{Place}
 use Rattle.bl_addresses.specs.declared.marks.Row.{Row}
 use Rattle.bl_addresses.specs.declared.marks.Scope.{Scope}

@@ -1,14 +1,12 @@
 -- The target of an address by what is found in a scope.
-use Rattle.std.proofs.Common.{◌≡◌, ℕ, Bool, true, false, List, map, Option, Some, None, refl, sym, ◌∙◌, ap, eqb-true}
+use Rattle.std.proofs.Common.{◌≡◌, ℕ, Bool, true, false, List, Option, Some, None, refl, ◌∙◌, ap, eqb-true}
 use Rattle.std.specs.Prelude.{◌==◌, ◌&&◌, if◌then◌else◌}
 use Rattle.std.specs.Option.{option_or, is_some}
 use Rattle.bl_format.specs.Nodes as nodes
 use Rattle.bl_format.specs.Nodes.{target_of}
 use Rattle.bl_format.specs.Words.{last_place}
-use Rattle.bl_addresses.specs.declared.marks.Mark.{Mark}
 use Rattle.bl_addresses.specs.declared.marks.Scope.TheVariants.{Group, File}
-use Rattle.bl_addresses.specs.Marks.{mark_of, is_found, target_in_group}
-use Rattle.bl_addresses.proofs.LastPlace.{last_place-map}
+use Rattle.bl_addresses.specs.Marks.{is_found, target_in_group}
 
 -- a number other than 0 fails the test for it
 not_zero : (a : ℕ) → (a ≡ 0 → ⊥) → (a == 0) ≡ false
@@ -47,8 +45,8 @@ target_at_null seen group address o is null =
     is ∙ rw null refl
 
 -- where the group has none, an ID is
-pub target_in_file : (marks : List Mark) (seen : List nodes.Mark) (group address : ℕ) (o r : Option ℕ)
-    → map mark_of marks ≡ seen → o ≡ target_in_group seen group address → false ≡ is_some o → (address ≡ 0 → ⊥)
+pub target_in_file : (marks seen : List nodes.Mark) (group address : ℕ) (o r : Option ℕ)
+    → marks ≡ seen → o ≡ target_in_group seen group address → false ≡ is_some o → (address ≡ 0 → ⊥)
     → r ≡ last_place (is_found File (record { part = 0; address = address })) marks
     → r ≡ target_of seen group address
 unfolding target_of target_in_group
@@ -57,17 +55,14 @@ target_in_file marks seen group address o r view is none other found =
     let id = last_place (λ n. n.is_an_id && n.address == address) seen in
     let null = not_zero address other in
     let own : o ≡ in_group = is ∙ rw null refl in
-    let file : r ≡ id = found
-    ∙ sym (last_place-map (λ (n : nodes.Mark). n.is_an_id && n.address == address) mark_of marks)
-    ∙ ap (λ ms. last_place (λ (n : nodes.Mark). n.is_an_id && n.address == address) ms) view in
+    let file : r ≡ id = found ∙ ap (λ ms. last_place (λ (n : nodes.Mark). n.is_an_id && n.address == address) ms) view in
     second_found in_group id o r own none file ∙ rw null refl
 
 -- what is found in the group is the target among its nodes alone
-pub target_among : (marks : List Mark) (seen : List nodes.Mark) (group address : ℕ) (r : Option ℕ)
-    → map mark_of marks ≡ seen → (address ≡ 0 → ⊥)
+pub target_among : (marks seen : List nodes.Mark) (group address : ℕ) (r : Option ℕ)
+    → marks ≡ seen → (address ≡ 0 → ⊥)
     → r ≡ last_place (is_found Group (record { part = group; address = address })) marks
     → r ≡ target_in_group seen group address
 unfolding target_in_group
 target_among marks seen group address r view other found =
-    found ∙ sym (last_place-map (λ (n : nodes.Mark). n.group == group && n.address == address) mark_of marks)
-    ∙ rw (not_zero address other) (ap (λ ms. last_place (λ (n : nodes.Mark). n.group == group && n.address == address) ms) view)
+    found ∙ rw (not_zero address other) (ap (λ ms. last_place (λ (n : nodes.Mark). n.group == group && n.address == address) ms) view)

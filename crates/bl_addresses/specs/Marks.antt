@@ -25,21 +25,21 @@ abbrev pub mark_of : Mark → nodes.Mark
 mark_of m = record { group = m.group; address = m.address; is_an_id = m.is_an_id }
 
 -- the mark of a node, or a blank one
-abbrev pub mark_at : List Mark → ℕ → Mark
+abbrev pub mark_at : List nodes.Mark → ℕ → nodes.Mark
 mark_at marks n = slice_index_or marks n (record { group = 0; address = 0; is_an_id = false })
 
 -- a node is looked up in a scope: any in its group, an ID in the file
-abbrev pub is_member : Scope → Mark → Bool
+abbrev pub is_member : Scope → nodes.Mark → Bool
 is_member Group m = true
 is_member File m = m.is_an_id
 
 -- where a node is found in a scope: in its group, or in the file, at its address
-abbrev pub place_in : Scope → Mark → Place
+abbrev pub place_in : Scope → nodes.Mark → Place
 place_in Group m = record { part = m.group; address = m.address }
 place_in File m = record { part = 0; address = m.address }
 
 -- a node where it is looked up in a scope, by its mark and its number
-abbrev pub row_of : Scope → Mark → ℕ → Row
+abbrev pub row_of : Scope → nodes.Mark → ℕ → Row
 row_of scope m n =
     record { address = (place_in scope m).address; part = (place_in scope m).part; node = n }
 
@@ -56,5 +56,5 @@ abbrev pub is_at : Place → Place → Bool
 is_at bound p = p.part == bound.part && p.address == bound.address
 
 -- a node is found in a scope at a place
-abbrev pub is_found : Scope → Place → Mark → Bool
+abbrev pub is_found : Scope → Place → nodes.Mark → Bool
 is_found scope place m = is_member scope m && is_at place (place_in scope m)

@@ -1,8 +1,5 @@
-ghost use Rattle.std.specs.Prelude.{◌≡◌, IfOk, length, map};
-ghost use Rattle.bl_addresses.specs.Marks.{mark_of, marks_by, is_member, place_in, place_of, row_of};
-
-use bl_num::NoMemory;
-use std::alloc::Global;
+ghost use Rattle.std.specs.Prelude.{◌≡◌, ◌<◌, length};
+ghost use Rattle.bl_addresses.specs.Marks.{mark_at, mark_of, marks_by, is_member, place_in, place_of, row_of};
 
 /// What an address is compared with in a node.
 #[derive(Clone, Copy, Debug)]
@@ -37,33 +34,23 @@ pub struct Row {
     pub node: u32,
 }
 
-/// The marks of nodes by their groups, their addresses and whether they are IDs.
-pub fn marks_by(
-    alloc: Global,
-    groups: &[u32],
-    addresses: &[u64],
-    ids: &[bool],
-) -> Result<Vec<Mark>, NoMemory>
+/// The mark of a node, of several by their groups, their addresses and whether they are IDs.
+pub fn mark_at(groups: &[u32], addresses: &[u64], ids: &[bool], n: usize) -> Mark
     requires addresses { length addresses.now ≡ length groups.now }
     requires ids { length ids.now ≡ length groups.now }
-    ensures marks { IfOk result (λ marks.
-        map mark_of marks.items ≡ marks_by groups.now addresses.now ids.now) }
-    ensures len { IfOk result (λ marks. length marks.items ≡ length groups.now) }
+    requires inside { n < length groups.now }
+    ensures { mark_of result ≡ mark_at (marks_by groups.now addresses.now ids.now) n }
 {
-    let mut marks = Vec::with_capacity(alloc, groups.len())?;
-    for (n, group) in groups.iter().enumerate() {
-        marks.push(Mark {
-            address: addresses[n],
-            group: *group,
-            is_an_id: ids[n],
-        })?;
+    Mark {
+        address: addresses[n],
+        group: groups[n],
+        is_an_id: ids[n],
     }
-    Ok(marks)
 }
 
 /// Whether a node is looked up in a scope.
 pub fn is_member(scope: Scope, mark: Mark) -> bool
-    ensures { result ≡ is_member scope mark }
+    ensures { result ≡ is_member scope (mark_of mark) }
 {
     match scope {
         Scope::Group => true,
@@ -73,7 +60,7 @@ pub fn is_member(scope: Scope, mark: Mark) -> bool
 
 /// Where a node is found in a scope.
 pub fn place_in(scope: Scope, mark: Mark) -> Place
-    ensures { result ≡ place_in scope mark }
+    ensures { result ≡ place_in scope (mark_of mark) }
 {
     let part = match scope {
         Scope::Group => mark.group,
@@ -87,7 +74,7 @@ pub fn place_in(scope: Scope, mark: Mark) -> Place
 
 /// A node where it is looked up in a scope, by its mark and its number.
 pub fn row_of(scope: Scope, mark: Mark, node: u32) -> Row
-    ensures { result ≡ row_of scope mark node }
+    ensures { result ≡ row_of scope (mark_of mark) node }
 {
     let place = place_in(scope, mark);
     Row {

@@ -1,39 +1,63 @@
 ghost use Rattle.std.specs.Prelude.{◌≡◌, ◌≤◌, ◌<◌, ◌^◌, true, IfOk, List, length, IsPermutation};
 ghost use Rattle.std.specs.Ordering.{is_lt};
+ghost use Rattle.bl_format.specs.Nodes.{Mark};
+ghost use Rattle.bl_addresses.specs.Marks.{marks_by};
 ghost use Rattle.bl_addresses.specs.Order.{AreMembers, AreSorted, IsOrder, key, key_cmp};
 
-use crate::marks::{Mark, Row, Scope, is_member, row_of};
+use crate::marks::{Row, Scope, is_member, mark_at, row_of};
 use bl_num::NoMemory;
 use std::alloc::Global;
 
 /// The rows of a scope's nodes in the order of their places, and at one place in the order of the
-/// file.
-pub fn order_of(alloc: Global, scope: Scope, marks: &[Mark]) -> Result<Vec<Row>, NoMemory>
-    requires { length marks.now < 2 ^ 32 }
-    ensures { IfOk result (λ rows. IsOrder scope marks.now rows.items) }
+/// file. Nodes are given by their groups, their addresses and whether they are IDs.
+pub fn order_of(
+    alloc: Global,
+    scope: Scope,
+    groups: &[u32],
+    addresses: &[u64],
+    ids: &[bool],
+) -> Result<Vec<Row>, NoMemory>
+    requires addresses { length addresses.now ≡ length groups.now }
+    requires ids { length ids.now ≡ length groups.now }
+    requires few { length groups.now < 2 ^ 32 }
+    ensures { IfOk result (λ rows.
+        IsOrder scope (marks_by groups.now addresses.now ids.now) rows.items) }
 {
-    let mut rows = members(alloc, scope, marks)?;
+    let mut rows = members(alloc, scope, groups, addresses, ids)?;
     sort(rows.as_mut_slice());
     Ok(rows)
 }
 
 // The rows of a scope's nodes.
-fn members(alloc: Global, scope: Scope, marks: &[Mark]) -> Result<Vec<Row>, NoMemory>
-    requires { length marks.now < 2 ^ 32 }
-    ensures { IfOk result (λ rows. AreMembers scope marks.now rows.items) }
+fn members(
+    alloc: Global,
+    scope: Scope,
+    groups: &[u32],
+    addresses: &[u64],
+    ids: &[bool],
+) -> Result<Vec<Row>, NoMemory>
+    requires addresses { length addresses.now ≡ length groups.now }
+    requires ids { length ids.now ≡ length groups.now }
+    requires few { length groups.now < 2 ^ 32 }
+    ensures { IfOk result (λ rows.
+        AreMembers scope (marks_by groups.now addresses.now ids.now) rows.items) }
 {
-    let mut rows = Vec::with_capacity(alloc, count(scope, marks))?;
-    for (n, mark) in marks.iter().enumerate() {
-        if is_member(scope, *mark) {
-            rows.push(row_of(scope, *mark, n as u32))?;
+    let mut rows = Vec::with_capacity(alloc, count(scope, ids))?;
+    for n in 0..groups.len() {
+        let mark = mark_at(groups, addresses, ids, n);
+        if is_member(scope, mark) {
+            rows.push(row_of(scope, mark, n as u32))?;
         }
     }
     Ok(rows)
 }
 
-// How many rows a scope has.
-fn count(scope: Scope, marks: &[Mark]) -> usize {
-    marks.iter().filter(|mark| is_member(scope, **mark)).count()
+// How many rows a scope has, by which nodes are IDs.
+fn count(scope: Scope, ids: &[bool]) -> usize {
+    match scope {
+        Scope::Group => ids.len(),
+        Scope::File => ids.iter().filter(|id| **id).count(),
+    }
 }
 
 // Sorts the rows of a scope, without memory. Rows of one part most often stand side by side already.

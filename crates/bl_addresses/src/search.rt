@@ -1,11 +1,12 @@
 ghost use Rattle.std.specs.Prelude.{◌≡◌, ◌≤◌, ◌<◌, true, false, List, length};
 ghost use Rattle.std.specs.List.{AllWithin};
 ghost use Rattle.std.specs.List.Sorted.{IsPartitionPoint, IsPartitionedBy};
+ghost use Rattle.bl_format.specs.Nodes.{Mark};
 ghost use Rattle.bl_format.specs.Words.{last_place};
 ghost use Rattle.bl_addresses.specs.Marks.{is_up_to, is_at, is_found, place_of};
 ghost use Rattle.bl_addresses.specs.Order.{AreSorted, EndsWithin, IsOrder};
 
-use crate::marks::{Mark, Place, Row, Scope, place_of};
+use crate::marks::{Place, Row, Scope, place_of};
 use crate::spans::Span;
 
 /// The last node at a place among the sorted rows of a scope, where those up to the place are

@@ -1,6 +1,6 @@
 ghost use Rattle.std.specs.Prelude.{◌<◌, ◌^◌, length};
 
-use crate::marks::{Mark, Row};
+use crate::marks::Row;
 use bl_num::NoMemory;
 use std::alloc::Global;
 
@@ -73,13 +73,13 @@ fn address_of(row: Option<&Row>) -> u64 {
 
 /// Where each group is guessed to begin in the nodes by group, where groups don't fall from node to
 /// node.
-pub fn starts_of(alloc: Global, marks: &[Mark]) -> Result<Vec<u32>, NoMemory>
-    requires { length marks.now < 2 ^ 32 }
+pub fn starts_of(alloc: Global, groups: &[u32]) -> Result<Vec<u32>, NoMemory>
+    requires { length groups.now < 2 ^ 32 }
 {
     let mut starts = Vec::with_capacity(alloc, 1)?;
     starts.push(0)?;
-    for (n, mark) in marks.iter().enumerate() {
-        if mark.group as usize == starts.len() {
+    for (n, group) in groups.iter().enumerate() {
+        if *group as usize == starts.len() {
             starts.push(n as u32)?;
         }
     }

@@ -2,7 +2,7 @@ ghost use Rattle.std.specs.Prelude.{◌≡◌, ◌<◌, ◌^◌, IfOk, length, s
 ghost use Rattle.bl_format.specs.Nodes.{target_of};
 ghost use Rattle.bl_addresses.specs.Marks.{marks_by, target_in_group};
 
-use crate::marks::{Mark, Place, Row, Scope, marks_by};
+use crate::marks::{Place, Row, Scope};
 use crate::order::order_of;
 use crate::search::last_at;
 use crate::spans::{Buckets, Span, span_of, starts_of};
@@ -12,12 +12,12 @@ use std::marker::Model;
 
 /// Which nodes addresses name, group by group. Addresses are searched in sorted lists: a file
 /// chooses its addresses, and in a hashed table it could choose ones that collide. Where one stands
-/// is guessed, by its group or among the IDs by its value, and the guess is tested. A node takes 32
+/// is guessed, by its group or among the IDs by its value, and the guess is tested. A node takes 20
 /// bytes, an ID 20 more, and a group 4.
 #[derive(Debug, Drop)]
 pub struct Table {
-    // What addresses are compared with in each node.
-    marks: Vec<Mark>,
+    // The group of each node.
+    groups: Vec<u32>,
     // The nodes by group, by address and by number.
     nodes: Vec<Row>,
     // The IDs by address and by number.
@@ -29,16 +29,16 @@ pub struct Table {
 }
 
 impl Model for Table {
-    ghost use Rattle.std.specs.Prelude.{List, map};
+    ghost use Rattle.std.specs.Prelude.{List};
     ghost use Rattle.bl_format.specs.Nodes.{Mark};
-    ghost use Rattle.bl_addresses.specs.Marks.{mark_of};
-    ghost use Rattle.bl_addresses.specs.Table.{IsTable};
+    ghost use Rattle.bl_addresses.specs.Table.{IsTable, marks_in};
 
     ghost Value = { List Mark };
 
-    ghost view = { λ t. map mark_of t.marks.items };
+    ghost view = { λ t. marks_in t.groups.items t.nodes.items t.ids.items };
 
-    ghost invariant = { λ t. IsTable t.marks.items t.nodes.items t.ids.items };
+    ghost invariant = { λ t.
+        IsTable (marks_in t.groups.items t.nodes.items t.ids.items) t.nodes.items t.ids.items };
 }
 
 impl Table {
@@ -55,13 +55,12 @@ impl Table {
         ensures marks { IfOk result (λ table. table ≡ marks_by groups.now addresses.now ids.now) }
         ensures len { IfOk result (λ table. length table ≡ length groups.now) }
     {
-        let marks = marks_by(alloc, groups, addresses, ids)?;
-        let nodes = order_of(alloc, Scope::Group, &marks)?;
-        let ids = order_of(alloc, Scope::File, &marks)?;
-        let starts = starts_of(alloc, &marks)?;
+        let nodes = order_of(alloc, Scope::Group, groups, addresses, ids)?;
+        let ids = order_of(alloc, Scope::File, groups, addresses, ids)?;
+        let starts = starts_of(alloc, groups)?;
         let buckets = Buckets::new(alloc, &ids)?;
         Ok(Table {
-            marks,
+            groups: Vec::from_slice(alloc, groups)?,
             nodes,
             ids,
             starts,
@@ -74,7 +73,7 @@ impl Table {
         requires { node < length self.now }
         ensures { option_map (λ mark. mark.group) (slice_get self.now node) ≡ Some result }
     {
-        self.marks[node as usize].group
+        self.groups[node as usize]
     }
 
     /// The node that an address names in a group.

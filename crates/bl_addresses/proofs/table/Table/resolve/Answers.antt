@@ -1,6 +1,7 @@
 use Rattle.std.proofs.Common.{sym, subst}
 use Rattle.bl_addresses.specs.declared.marks.Scope.TheVariants.{File}
 use Rattle.bl_addresses.specs.Order.{IsOrder}
+use Rattle.bl_addresses.specs.Table.{marks_in}
 use Rattle.bl_addresses.proofs.TargetLemmas.{target_in_own, target_at_null, target_in_file}
 use Rattle.bl_addresses.proofs.table.Table.resolve.Goals as goal
 use Rattle.bl_addresses.proofs.table.Table.resolve.Goals.{then-is_some-via-then-is_some, then-is_some-via-else-is_some+then-address-eq0}
@@ -17,7 +18,7 @@ returns-then-is_some c =
 
 pub returns : goal.returns
 returns c =
-    let marks = c.self.inside.marks.items in
+    let marks = marks_in c.self.inside.groups.items c.self.inside.nodes.items c.self.inside.ids.items in
     let own = c.resolve_in_group-own in
     let ids = subst (λ rows. IsOrder File marks rows) (sym c.deref.ensures.value) c.self.invariant.ids_sorted in
     target_in_file marks c.args.self.now c.args.group c.args.address own.result c.last_at.result c.self.view_is
