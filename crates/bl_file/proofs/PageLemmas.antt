@@ -19,55 +19,55 @@ same_part k n f x y within same =
     sym (drop-take k n x) ∙ ap (drop k) (sym (take-take (k + n) f x within) ∙ ap (take (k + n)) same ∙ take-take (k + n) f y within) ∙ drop-take k n y
 
 -- what stands in the page stands in the bytes
-part_of : (size from filled at n : ℕ) (page b : List ℕ) → HavePage size from filled page b → from ≤ at → at - from + n ≤ filled
-    → take n (drop at b) ≡ take n (drop (at - from) page)
-part_of size from filled at n page b have behind within =
-    let place : from + (at - from) ≡ at = omega (arith, behind) in
-    ap (λ (i : ℕ). take n (drop i b)) (sym place) ∙ ap (take n) (sym (drop-drop (at - from) from b))
-    ∙ same_part (at - from) n filled (drop from b) page within have.part
+part_of : (size page_at filled at n : ℕ) (page b : List ℕ) → HavePage size page_at filled page b → page_at ≤ at → at - page_at + n ≤ filled
+    → take n (drop at b) ≡ take n (drop (at - page_at) page)
+part_of size page_at filled at n page b have behind within =
+    let place : page_at + (at - page_at) ≡ at = omega (arith, behind) in
+    ap (λ (i : ℕ). take n (drop i b)) (sym place) ∙ ap (take n) (sym (drop-drop (at - page_at) page_at b))
+    ∙ same_part (at - page_at) n filled (drop page_at b) page within have.part
 
-copied_of : (o : Option (List ℕ)) (size from filled at : ℕ) (page part : List ℕ) → IsSomeAnd o (HavePage size from filled page) → from ≤ at → at - from + length part ≤ filled
-    → part ≡ take (length part) (drop (at - from) page) → option_map (λ bytes. take (length part) (drop at bytes)) o ≡ Some part
-copied_of (Some b) size from filled at page part have behind within is = ap Some (part_of size from filled at (length part) page b have behind within ∙ sym is)
-copied_of None size from filled at page part none behind within is = absurd none
+copied_of : (o : Option (List ℕ)) (size page_at filled at : ℕ) (page part : List ℕ) → IsSomeAnd o (HavePage size page_at filled page) → page_at ≤ at → at - page_at + length part ≤ filled
+    → part ≡ take (length part) (drop (at - page_at) page) → option_map (λ bytes. take (length part) (drop at bytes)) o ≡ Some part
+copied_of (Some b) size page_at filled at page part have behind within is = ap Some (part_of size page_at filled at (length part) page b have behind within ∙ sym is)
+copied_of None size page_at filled at page part none behind within is = absurd none
 
-module _ (told : Option Told) (name : List ℕ) (size from filled : ℕ) (page : List ℕ) (held : IsHeldAnd told name (HavePage size from filled page)) where
+module _ (told : Option Told) (name : List ℕ) (size page_at filled : ℕ) (page : List ℕ) (held : IsHeldAnd told name (HavePage size page_at filled page)) where
   -- what is copied of a page are bytes of the file
-  pub copied_page : (at : ℕ) (part : List ℕ) → from ≤ at → at - from + length part ≤ filled → part ≡ take (length part) (drop (at - from) page) → AreBytesAt told name at part
+  pub copied_page : (at : ℕ) (part : List ℕ) → page_at ≤ at → at - page_at + length part ≤ filled → part ≡ take (length part) (drop (at - page_at) page) → AreBytesAt told name at part
   copied_page = go told held
     where
-      go : (o : Option Told) → IsHeldAnd o name (HavePage size from filled page) → (at : ℕ) (part : List ℕ) → from ≤ at → at - from + length part ≤ filled
-          → part ≡ take (length part) (drop (at - from) page) → AreBytesAt o name at part
+      go : (o : Option Told) → IsHeldAnd o name (HavePage size page_at filled page) → (at : ℕ) (part : List ℕ) → page_at ≤ at → at - page_at + length part ≤ filled
+          → part ≡ take (length part) (drop (at - page_at) page) → AreBytesAt o name at part
       go None h at part behind within is = tt
-      go (Some t) h at part behind within is = copied_of (bytes_under name t) size from filled at page part h behind within is
+      go (Some t) h at part behind within is = copied_of (bytes_under name t) size page_at filled at page part h behind within is
 
   -- the file reaches as far as its size
   pub page_reaches : (end : ℕ) → end ≤ size → Reaches told name end
   page_reaches end within =
       IsHeldAnd-ForHeld told name (λ bytes. end ≤ length bytes)
-      (IsHeldAnd-weaker told name (HavePage size from filled page) (λ bytes. end ≤ length bytes) held (λ b have. let whole = have.whole in omega (arith, whole, within)))
+      (IsHeldAnd-weaker told name (HavePage size page_at filled page) (λ bytes. end ≤ length bytes) held (λ b have. let whole = have.whole in omega (arith, whole, within)))
 
   -- a page of no bytes says as much of the file
-  pub empty_page : (other : List ℕ) → IsHeldAnd told name (HavePage size from 0 other)
+  pub empty_page : (other : List ℕ) → IsHeldAnd told name (HavePage size page_at 0 other)
   empty_page other =
-      IsHeldAnd-weaker told name (HavePage size from filled page) (HavePage size from 0 other) held (λ b have. record { whole = have.whole; below = have.below; part = refl })
+      IsHeldAnd-weaker told name (HavePage size page_at filled page) (HavePage size page_at 0 other) held (λ b have. record { whole = have.whole; below = have.below; part = refl })
 
   -- a page that was read says of the file what it holds
   pub read_page : (at n : ℕ) (part now : List ℕ) → AreBytesAt told name at part → length part ≡ n → take n now ≡ part → IsHeldAnd told name (HavePage size at n now)
   read_page at n part now read len is =
-      IsHeldAnd-both told name (HavePage size from filled page) (IsPartAt size at part) (HavePage size at n now) held
-      (AreBytesAt-IsPartAt told name (HavePage size from filled page) size at part read held (λ b have. have.whole))
+      IsHeldAnd-both told name (HavePage size page_at filled page) (IsPartAt size at part) (HavePage size at n now) held
+      (AreBytesAt-IsPartAt told name (HavePage size page_at filled page) size at part read held (λ b have. have.whole))
       (λ b have copied. record { whole = have.whole; below = have.below; part = ap (λ (i : ℕ). take i (drop at b)) (sym len) ∙ copied.bytes ∙ sym is })
 
   -- the file isn't gone
   pub held_present : {T : Type 0} (result : Result T ShelfFault) → IsAbsentExactly told name result → IsErrOf result Absent → told ≡ None
   held_present result absent is = go told held (absent.only is)
     where
-      gone : (o : Option (List ℕ)) → IsSomeAnd o (HavePage size from filled page) → o ≡ None → ⊥
+      gone : (o : Option (List ℕ)) → IsSomeAnd o (HavePage size page_at filled page) → o ≡ None → ⊥
       gone None none is = none
       gone (Some b) have is = cc
 
-      go : (o : Option Told) → IsHeldAnd o name (HavePage size from filled page) → IfSome o (λ t. bytes_under name t ≡ None) → o ≡ None
+      go : (o : Option Told) → IsHeldAnd o name (HavePage size page_at filled page) → IfSome o (λ t. bytes_under name t ≡ None) → o ≡ None
       go None h missed = refl
       go (Some t) h missed = absurd (gone (bytes_under name t) h missed)
 
@@ -85,11 +85,11 @@ first_page (Some t) name size n page len below read is =
     rw is (first_of (bytes_under name t) size page (len t refl) below read)
 
 -- what is copied from so far behind the page's start are bytes of the file
-pub copied_place : (told : Option Told) (name : List ℕ) (size from filled : ℕ) (page : List ℕ) → IsHeldAnd told name (HavePage size from filled page) → (at place : ℕ) (part : List ℕ) → from + place ≡ at
+pub copied_place : (told : Option Told) (name : List ℕ) (size page_at filled : ℕ) (page : List ℕ) → IsHeldAnd told name (HavePage size page_at filled page) → (at place : ℕ) (part : List ℕ) → page_at + place ≡ at
     → place + length part ≤ filled → part ≡ take (length part) (drop place page) → AreBytesAt told name at part
-copied_place told name size from filled page held at place part begins within is =
-    let far : at - from ≡ place = omega (arith, begins) in
-    copied_page told name size from filled page held at part (omega (arith, begins)) (rw far within) (rw far is)
+copied_place told name size page_at filled page held at place part begins within is =
+    let far : at - page_at ≡ place = omega (arith, begins) in
+    copied_page told name size page_at filled page held at part (omega (arith, begins)) (rw far within) (rw far is)
 
 -- a front and what stands behind it, of some bytes
 joined : (p q z : List ℕ) → take (length p) z ≡ p → take (length q) (drop (length p) z) ≡ q → take (length (p ++ q)) z ≡ p ++ q
@@ -123,6 +123,6 @@ part_more told told' name name' at n m x x' y same-told same-name front within d
     rw front (next_part told name at n m x y within done (rw (sym same-told) (rw (sym same-name) rest)))
 
 -- a page of a shelf and a file that have stayed
-pub page_more : (told told' : Option Told) (name name' : List ℕ) (size size' from filled : ℕ) (page : List ℕ) → told' ≡ told → name' ≡ name → size' ≡ size
-    → IsHeldAnd told' name' (HavePage size from filled page) → IsHeldAnd told name (HavePage size' from filled page)
-page_more told told' name name' size size' from filled page same-told same-name same held = rw (sym same-told) (rw (sym same-name) (rw same held))
+pub page_more : (told told' : Option Told) (name name' : List ℕ) (size size' page_at filled : ℕ) (page : List ℕ) → told' ≡ told → name' ≡ name → size' ≡ size
+    → IsHeldAnd told' name' (HavePage size page_at filled page) → IsHeldAnd told name (HavePage size' page_at filled page)
+page_more told told' name name' size size' page_at filled page same-told same-name same held = rw (sym same-told) (rw (sym same-name) (rw same held))

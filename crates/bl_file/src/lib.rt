@@ -12,6 +12,7 @@ mod nodes;
 mod opened;
 mod outline;
 mod paged;
+mod parts;
 mod payload;
 mod reading;
 mod speakers;

@@ -7,11 +7,12 @@ ghost use Rattle.bl_file.specs.Held.{IsHeldAnd};
 ghost use Rattle.bl_file.specs.Pages.{HavePage};
 
 use crate::Payload;
+use crate::parts::copy_part;
 use bl_shelf::{Shelf, ShelfFault};
 use std::alloc::Global;
 
 // The bytes of a page, or fewer where the file ends before.
-const PAGE: u64 = 65_536;
+const PAGE_SIZE: u64 = 65_536;
 
 /// A file of which one page is held. A page begins at a multiple of 65,536 and is read whole, or up
 /// to the file's end.
@@ -20,26 +21,26 @@ pub struct PagedPayload {
     name: String,
     size: u64,
     // Where the page stands in the file, and how many of its bytes are read.
-    from: u64,
+    page_at: u64,
     filled: usize,
     page: Vec<u8>,
     ghost within: { filled ≤ vec_len page },
-    ghost begins: { from % 65536 ≡ 0 },
+    ghost begins: { page_at % 65536 ≡ 0 },
     ghost long: { vec_len page ≡ min size 65536 },
 }
 
 impl PagedPayload {
     // Reads the page that has a place, unless it is held. After a failure none is held.
-    fn turn<S: Shelf>(&mut self, shelf: &mut S, at: u64) -> Result<(), ShelfFault>
+    fn hold_page<S: Shelf>(&mut self, shelf: &mut S, at: u64) -> Result<(), ShelfFault>
         requires inside { at < self.old.size }
         requires held { IsHeldAnd (S.told shelf.old) (string_bytes self.old.name)
-            (HavePage self.old.size self.old.from self.old.filled self.old.page.items) }
-        ensures from { OnOk result (self.new.from ≡ at - at % 65536) }
+            (HavePage self.old.size self.old.page_at self.old.filled self.old.page.items) }
+        ensures page_at { OnOk result (self.new.page_at ≡ at - at % 65536) }
         ensures filled { OnOk result (at % 65536 < self.new.filled) }
         ensures name { self.new.name ≡ self.old.name }
         ensures size { self.new.size ≡ self.old.size }
         ensures held { IsHeldAnd (S.told shelf.old) (string_bytes self.old.name)
-            (HavePage self.old.size self.new.from self.new.filled self.new.page.items) }
+            (HavePage self.old.size self.new.page_at self.new.filled self.new.page.items) }
         ensures told { S.told shelf.new ≡ S.told shelf.old }
         ensures room { S.room shelf.new ≡ S.room shelf.old }
         ensures cause { HasCause (S.faults shelf.old) (S.faults shelf.new)
@@ -47,14 +48,14 @@ impl PagedPayload {
         ensures absent { IsErrOf result ShelfFault.Absent → S.told shelf.old ≡ None }
         ensures no_memory { result ≢ Err ShelfFault.NoMemory }
     {
-        let from = at - at % PAGE;
-        if self.from == from && at % PAGE < self.filled as u64 {
+        let page_at = at - at % PAGE_SIZE;
+        if self.page_at == page_at && at % PAGE_SIZE < self.filled as u64 {
             return Ok(());
         }
-        let filled = (self.size - from).min(self.page.len() as u64) as usize;
+        let filled = (self.size - page_at).min(self.page.len() as u64) as usize;
         self.filled = 0;
-        read_first(shelf, self.name.as_str(), from, &mut self.page, filled)?;
-        self.from = from;
+        read_page(shelf, self.name.as_str(), page_at, &mut self.page, filled)?;
+        self.page_at = page_at;
         self.filled = filled;
         Ok(())
     }
@@ -70,7 +71,7 @@ impl PagedPayload {
         requires inside { at + length dst.old ≤ self.old.size }
         requires some { 0 < length dst.old }
         requires held { IsHeldAnd (S.told shelf.old) (string_bytes self.old.name)
-            (HavePage self.old.size self.old.from self.old.filled self.old.page.items) }
+            (HavePage self.old.size self.old.page_at self.old.filled self.old.page.items) }
         ensures some { IfOk result (λ n. 0 < n) }
         ensures within { IfOk result (λ n. n ≤ length dst.old) }
         ensures bytes { IfOk result (λ n.
@@ -78,7 +79,7 @@ impl PagedPayload {
         ensures name { self.new.name ≡ self.old.name }
         ensures size { self.new.size ≡ self.old.size }
         ensures held { IsHeldAnd (S.told shelf.old) (string_bytes self.old.name)
-            (HavePage self.old.size self.new.from self.new.filled self.new.page.items) }
+            (HavePage self.old.size self.new.page_at self.new.filled self.new.page.items) }
         ensures told { S.told shelf.new ≡ S.told shelf.old }
         ensures room { S.room shelf.new ≡ S.room shelf.old }
         ensures cause { HasCause (S.faults shelf.old) (S.faults shelf.new)
@@ -86,8 +87,8 @@ impl PagedPayload {
         ensures absent { IsErrOf result ShelfFault.Absent → S.told shelf.old ≡ None }
         ensures no_memory { result ≢ Err ShelfFault.NoMemory }
     {
-        self.turn(shelf, at)?;
-        let place = at % PAGE;
+        self.hold_page(shelf, at)?;
+        let place = at % PAGE_SIZE;
         let n = (self.filled - place as usize).min(dst.len());
         copy_part(&self.page, place, &mut dst[..n]);
         Ok(n)
@@ -99,7 +100,7 @@ impl Payload for PagedPayload {
 
     ghost file_size = { λ p. p.size };
 
-    ghost agrees = { λ p. HavePage p.size p.from p.filled p.page.items };
+    ghost agrees = { λ p. HavePage p.size p.page_at p.filled p.page.items };
 
     ghost agreed_size = { λ p bytes agrees. agrees.whole };
 
@@ -112,12 +113,12 @@ impl Payload for PagedPayload {
         size: u64,
     ) -> Result<Self, ShelfFault> {
         let own_name = String::from_str(alloc, name)?;
-        let mut page = vec![in alloc; 0; size.min(PAGE) as usize]?;
+        let mut page = vec![in alloc; 0; size.min(PAGE_SIZE) as usize]?;
         shelf.read_at(name, 0, &mut page)?;
         Ok(PagedPayload {
             name: own_name,
             size,
-            from: 0,
+            page_at: 0,
             filled: page.len(),
             page,
         })
@@ -129,8 +130,8 @@ impl Payload for PagedPayload {
         at: u64,
         dst: &mut [u8],
     ) -> Result<(), ShelfFault> {
-        let place = at % PAGE;
-        if self.from == at - place && place + dst.len() as u64 <= self.filled as u64 {
+        let place = at % PAGE_SIZE;
+        if self.page_at == at - place && place + dst.len() as u64 <= self.filled as u64 {
             copy_part(&self.page, place, dst);
             return Ok(());
         }
@@ -144,7 +145,7 @@ impl Payload for PagedPayload {
 }
 
 // Fills as many bytes of a page with those of a file from a place on.
-fn read_first<S: Shelf>(
+fn read_page<S: Shelf>(
     shelf: &mut S,
     name: &str,
     at: u64,
@@ -162,15 +163,6 @@ fn read_first<S: Shelf>(
     ensures no_memory { result ≢ Err ShelfFault.NoMemory }
 {
     shelf.read_at(name, at, &mut page[..filled])
-}
-
-// Copies what stands at a place of a page.
-pub fn copy_part(page: &[u8], place: u64, dst: &mut [u8])
-    requires { place + length dst.old ≤ length page.now }
-    ensures { dst.new ≡ take (length dst.old) (drop place page.now) }
-{
-    let rest = &page[place as usize..];
-    dst.copy_from_slice(&rest[..dst.len()]);
 }
 
 #[cfg(test)]

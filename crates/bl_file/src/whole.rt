@@ -2,7 +2,7 @@
 ghost use Rattle.std.specs.Prelude.{◌≡◌, ◌<◌, All, length};
 
 use crate::Payload;
-use crate::paged::copy_part;
+use crate::parts::copy_part;
 use bl_num::Text;
 use bl_shelf::{Shelf, ShelfFault};
 use std::alloc::Global;

@@ -7,12 +7,12 @@ use Rattle.bl_file.proofs.paged.PagedPayload.copy_next.Goals as goal
 pub returns-clause-bytes : goal.returns-clause-bytes
 returns-clause-bytes g c =
     let old = c.args.self.now in
-    let p = c.turn.new.self in
+    let p = c.hold_page.new.self in
     let part = c.copy_part.new.dst in
     let n = c.min-n.result in
     let place = c.args.at % 65536 in
-    let filled : place < p.filled = c.in_ok-turn.ensures.filled in
-    let begins : p.from ≡ c.args.at - place = c.in_ok-turn.ensures.from in
+    let filled : place < p.filled = c.in_ok-hold_page.ensures.filled in
+    let begins : p.page_at ≡ c.args.at - place = c.in_ok-hold_page.ensures.page_at in
     let below = mod-le c.args.at 65536 in
     let least = c.min-n.ensures in
     let long : length part ≡ length (take n c.args.dst.now) = c.copy_part.auto.dst in
@@ -21,4 +21,4 @@ returns-clause-bytes g c =
     let copied : part ≡ take (length part) (drop place p.page.items) =
     c.copy_part.ensures ∙ ap (λ k. take k (drop place c.deref.result.now)) (sym long) ∙ ap (λ items. take (length part) (drop place items)) c.deref.ensures.value in
     rw (take_at part (drop n c.args.dst.now) n len)
-    (copied_place (g.S.Shelf.told c.args.shelf.now) (string_bytes old.name) old.size p.from p.filled p.page.items c.turn.ensures.held c.args.at place part (omega (arith, begins, below)) within copied)
+    (copied_place (g.S.Shelf.told c.args.shelf.now) (string_bytes old.name) old.size p.page_at p.filled p.page.items c.hold_page.ensures.held c.args.at place part (omega (arith, begins, below)) within copied)

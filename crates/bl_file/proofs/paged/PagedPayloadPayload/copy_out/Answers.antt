@@ -10,12 +10,12 @@ returns-then-place-dst-clause-bytes g c =
     let part = c.copy_part.new.dst in
     let place = c.args.at % 65536 in
     let below = mod-le c.args.at 65536 in
-    let begins : p.from ≡ c.args.at - place = c.if-self-at.true in
+    let begins : p.page_at ≡ c.args.at - place = c.if-self-at.true in
     let long : length part ≡ length c.args.dst.now = c.copy_part.auto.dst in
     let within : place + length part ≤ p.filled = rw long c.if-place-dst.true in
     let copied : part ≡ take (length part) (drop place p.page.items) =
     c.copy_part.ensures ∙ ap (λ k. take k (drop place c.deref.result.now)) (sym long) ∙ ap (λ items. take (length part) (drop place items)) c.deref.ensures.value in
-    copied_place (g.S.Shelf.told c.args.shelf.now) (string_bytes p.name) p.size p.from p.filled p.page.items c.requires.held c.args.at place part (omega (arith, begins, below)) within copied
+    copied_place (g.S.Shelf.told c.args.shelf.now) (string_bytes p.name) p.size p.page_at p.filled p.page.items c.requires.held c.args.at place part (omega (arith, begins, below)) within copied
 
 pub loop-done-preserved : goal.loop-done-preserved
 loop-done-preserved g c =
@@ -40,7 +40,7 @@ loop-done-preserved g c =
           still.6 same cut.ensures.front still.0 still.2 copied.bytes,
       kept.name ∙ still.3,
       kept.size ∙ still.4,
-      page_more (told c.args.shelf.now) (told loop.shelf) (string_bytes old.name) (string_bytes loop.self.name) loop.self.size next.self.size next.self.from next.self.filled next.self.page.items
+      page_more (told c.args.shelf.now) (told loop.shelf) (string_bytes old.name) (string_bytes loop.self.name) loop.self.size next.self.size next.self.page_at next.self.filled next.self.page.items
           still.6 same kept.size kept.held,
       kept.told ∙ still.6,
       kept.room ∙ still.7,

@@ -10,7 +10,7 @@ invariant-loop-done g l =
     (l.done ≤ length l.dst) × (length l.dst ≡ length l.initial.dst)
     × AreBytesAt (g.S.Shelf.told l.initial.shelf) (string_bytes l.initial.self.name) l.at (take l.done l.dst)
     × (l.self.name ≡ l.initial.self.name) × (l.self.size ≡ l.initial.self.size)
-    × IsHeldAnd (g.S.Shelf.told l.initial.shelf) (string_bytes l.initial.self.name) (HavePage l.self.size l.self.from l.self.filled l.self.page.items)
+    × IsHeldAnd (g.S.Shelf.told l.initial.shelf) (string_bytes l.initial.self.name) (HavePage l.self.size l.self.page_at l.self.filled l.self.page.items)
     × (g.S.Shelf.told l.shelf ≡ g.S.Shelf.told l.initial.shelf) × (g.S.Shelf.room l.shelf ≡ g.S.Shelf.room l.initial.shelf)
     × (g.S.Shelf.faults l.initial.shelf ≤ g.S.Shelf.faults l.shelf) × (g.S.Shelf.misses l.initial.shelf ≤ g.S.Shelf.misses l.shelf)
 
