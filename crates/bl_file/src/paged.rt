@@ -15,7 +15,7 @@ use std::alloc::Global;
 const PAGE_SIZE: u64 = 65_536;
 
 /// A file of which one page is held. A page begins at a multiple of 65,536 and is read whole, or up
-/// to the file's end.
+/// to the file's end. A part of 65,536 bytes or more is read to where it goes, and not by pages.
 #[derive(Drop)]
 pub struct PagedPayload {
     name: String,
@@ -130,6 +130,9 @@ impl Payload for PagedPayload {
         at: u64,
         dst: &mut [u8],
     ) -> Result<(), ShelfFault> {
+        if dst.len() as u64 >= PAGE_SIZE {
+            return shelf.read_at(self.name.as_str(), at, dst);
+        }
         let place = at % PAGE_SIZE;
         if self.page_at == at - place && place + dst.len() as u64 <= self.filled as u64 {
             copy_part(&self.page, place, dst);
