@@ -1,8 +1,8 @@
 -- Drafts of all nodes of a file: the test for them, and that their heads, what addresses name from them, and their kinds are
 -- those of the file.
-use Rattle.std.proofs.Common.{◌≡◌, ◌<◌, ℕ, ◌+◌, true, List, [], ◌∷◌, ◌++◌, length, get_or, take, refl, sym, ap, subst, ◌∙◌, arith}
+use Rattle.std.proofs.Common.{◌≡◌, ◌<◌, ℕ, ◌+◌, true, false, List, [], ◌∷◌, ◌++◌, length, get_or, take, refl, sym, ap, subst, ◌∙◌, arith}
 use Rattle.std.specs.Prelude.{◌==◌, map, slice_get}
-use Rattle.std.proofs.lemmas.Bool.{eqb-true, and_parts}
+use Rattle.std.proofs.lemmas.Bool.{eqb-true, eq-eqb, and_parts, both_ways}
 use Rattle.std.proofs.lemmas.List.{ext_get_or, get_or-map, length-map, take_more, take_all}
 use Rattle.std.proofs.lemmas.Option.{slice_get-get_or}
 use Rattle.bl_format.specs.declared.file.Head.{Head}
@@ -53,6 +53,17 @@ pub all-by : {X : Type 0} (f : ℕ → X) (xs : List X) (k n : ℕ) → k ≡ le
     → take k xs ≡ map f (numbers_below k) → xs ≡ map f (numbers_below n)
 all-by f xs k n all is so_far =
     sym (take_all k xs (omega (arith, all))) ∙ so_far ∙ ap (λ m. map f (numbers_below m)) is
+
+-- a list that differs at a place isn't what a function gives for the numbers below n
+pub differs-by : {X : Type 0} (f : ℕ → X) (xs : List X) (k n : ℕ) (d : X) → k < length xs → (get_or xs k d ≡ f k → ⊥)
+    → xs ≡ map f (numbers_below n) → ⊥
+differs-by f xs k n d lt differs all =
+    let long : length xs ≡ n = ap length all ∙ length-map (numbers_below n) f ∙ length-numbers_below n in
+    differs (ap (λ ys. get_or ys k d) all ∙ get_or-by f n k d (omega (arith, lt, long)))
+
+-- an entry that doesn't pass isn't that node
+pub is_source-other : (k : ℕ) (x : Entry) → is_source 0 k x ≡ false → x ≡ entries.Source 0 k → ⊥
+is_source-other k x none is = both_ways (is_source 0 k x) none (ap (is_source 0 k) is ∙ eq-eqb k k refl)
 
 -- ---- the draft
 

@@ -1,4 +1,4 @@
-ghost use Rattle.std.specs.Prelude.{◌≡◌, ◌<◌, ◌^◌, true, All, [], ◌∷◌, IfOk, length, suc};
+ghost use Rattle.std.specs.Prelude.{◌≡◌, ◌<◌, ◌^◌, ◌↔◌, true, All, [], ◌∷◌, IfOk, IsTrue, length, suc};
 ghost use Rattle.bl_format.specs.Schema.{CanBeRead};
 ghost use Rattle.bl_format.specs.Layout.{HasLayout};
 ghost use Rattle.bl_selection.specs.Drafts.{is_well_formed};
@@ -79,7 +79,7 @@ fn draft_of(
 /// Whether a draft has all of so many nodes of its only source, in order, each as its own image.
 pub fn is_of_all(draft: &Draft, count: usize) -> bool
     requires { length draft.now.images ≡ 1 }
-    ensures { result ≡ true → IsOfAll count draft.now }
+    ensures { IsTrue result ↔ IsOfAll count draft.now }
 {
     are_all_nodes(draft.entries.as_slice(), count)
         && are_own_images(draft.images.as_slice()[0].as_slice(), count)
@@ -87,7 +87,7 @@ pub fn is_of_all(draft: &Draft, count: usize) -> bool
 
 // Whether entries are all of so many nodes of the only source, in order.
 fn are_all_nodes(entries: &[Entry], count: usize) -> bool
-    ensures { result ≡ true → entries.now ≡ all_entries count }
+    ensures { IsTrue result ↔ (entries.now ≡ all_entries count) }
 {
     for (k, entry) in entries.iter().enumerate() {
         if !is_node(entry, k) {
@@ -109,7 +109,7 @@ fn is_node(entry: &Entry, k: usize) -> bool
 
 // Whether images are those by which each of so many nodes is its own.
 fn are_own_images(images: &[u32], count: usize) -> bool
-    ensures { result ≡ true → images.now ≡ all_images count }
+    ensures { IsTrue result ↔ (images.now ≡ all_images count) }
 {
     for (k, image) in images.iter().enumerate() {
         if *image as usize != k + 1 {
