@@ -62,7 +62,7 @@ pub fn entries_by(alloc: Global, kept: &[bool]) -> Result<Vec<Entry>, NoMemory>
     requires { length kept.now < 2 ^ 32 }
     ensures { IfOk result (λ entries. entries.items ≡ entries_by (flag_at kept.now) (length kept.now)) }
 {
-    let mut entries = Vec::new(alloc);
+    let mut entries = Vec::with_capacity(alloc, count(kept))?;
     for (n, is_kept) in kept.iter().enumerate() {
         if *is_kept {
             entries.push(Entry::Source {
@@ -72,6 +72,11 @@ pub fn entries_by(alloc: Global, kept: &[bool]) -> Result<Vec<Entry>, NoMemory>
         }
     }
     Ok(entries)
+}
+
+// How many nodes are kept.
+fn count(kept: &[bool]) -> usize {
+    kept.iter().filter(|is_kept| **is_kept).count()
 }
 
 /// For each node 1 more than the number of its entry, or 0.
