@@ -1,38 +1,26 @@
--- The draft of all nodes of an opened file is one of the file's own nodes, and has no more entries than the file has nodes.
-use Rattle.std.proofs.Common.{◌≡◌, ℕ, ◌≤◌, true, All, List, [], ◌∷◌, length, refl, sym, ap, subst, ◌∙◌, arith, Result, Ok, Err}
+-- The draft of all nodes of an opened file has no more entries than blocks may be, so a fault of rendering it came from outside.
+use Rattle.std.proofs.Common.{◌≡◌, ℕ, ◌≤◌, List, [], length, ap, ◌∙◌, arith, Result}
 use Rattle.std.specs.Prelude.{IfOk}
 use Rattle.std.proofs.lemmas.List.{length-map}
 use Rattle.std.proofs.lemmas.Result.{IfOk-weaker}
-use Rattle.std.proofs.lemmas.List.Elements.{All-map}
 use Rattle.std.proofs.lemmas.List.Sums.{count_by-le-length, length-filter}
-use Rattle.bl_format.specs.Limits.{most_blocks, most_output_nodes}
+use Rattle.bl_format.specs.Limits.{most_blocks}
 use Rattle.bl_format.specs.Words.{numbers_below}
 use Rattle.bl_format.specs.declared.catalogue.Catalogue.{Catalogue}
 use Rattle.bl_selection.specs.declared.draft.Draft.{Draft}
 use Rattle.bl_selection.specs.declared.draft.Entry.TheVariants as entries
 use Rattle.bl_selection.specs.Selection.{is_kept, kept_nodes, whole_selection}
-use Rattle.bl_selection.specs.Drafts.{is_well_formed}
 use Rattle.bl_selection.proofs.EntriesAsNodes.{length-numbers_below}
 use Rattle.bl_file.specs.declared.outline.Outline.{Outline}
 use Rattle.bl_file.specs.Outlines.{IsSound}
-use Rattle.bl_draft.specs.Own.{IsOfSource, IsOwnDraft, outlined}
+use Rattle.bl_draft.specs.Own.{outlined}
 use Rattle.bl_writer.specs.declared.fault.WriteFault.{WriteFault}
 use Rattle.bl_writer.specs.declared.fault.WriteFault.TheVariants as faults
 use Rattle.bl_writer.specs.Faults.{IsRefusal}
 use Rattle.bl_cli.specs.Prepared.{IsOutside}
 use Rattle.bl_cli.proofs.Outcomes.{own_draft}
 
--- it is a draft of the file's own nodes
-pub is_own : (o : Outline) (d : Draft) → d ≡ own_draft o → is_well_formed (outlined o [] ∷ []) d ≡ true → IsOwnDraft o d
-is_own o d is formed = record {
-  header = ap (λ (x : Draft). x.header) is;
-  catalogue = ap (λ (x : Draft). x.catalogue) is;
-  no_overrides = ap (λ (x : Draft). x.overrides) is;
-  sources = subst (λ (x : Draft). All IsOfSource x.entries) (sym is) (All-map IsOfSource (entries.Source 0) (kept_nodes o.layout.catalogue (outlined o [])) (λ k d lt. refl));
-  well_formed = formed;
-}
-
--- it has no more entries than blocks may be
+-- it has no more entries
 pub own_few : (o : Outline) (d : Draft) → IsSound o → d ≡ own_draft o → length d.entries ≤ most_blocks
 own_few o d sound is =
     let nodes : List ℕ = numbers_below (length o.nodes) in
@@ -54,17 +42,9 @@ only_outside n faults.NoMemory refusal few = tt
 
 -- so of what an answer has that is made with a copy of the file's catalogue
 module _ {E : Type 0} (r : Result Draft E) (o : Outline) (copy : Catalogue) (same : copy ≡ o.layout.catalogue)
-    (made : IfOk r (λ d. d ≡ whole_selection (outlined o []) o.header copy)) where
-  own : (d : Draft) → d ≡ whole_selection (outlined o []) o.header copy → d ≡ own_draft o
-  own d is = is ∙ ap (whole_selection (outlined o []) o.header) same
-
-  pub own_answer : IfOk r (λ d. is_well_formed (outlined o [] ∷ []) d ≡ true) → IfOk r (IsOwnDraft o)
-  own_answer formed = by r made formed
-    where
-      by : (r : Result Draft E) → IfOk r (λ d. d ≡ whole_selection (outlined o []) o.header copy)
-          → IfOk r (λ d. is_well_formed (outlined o [] ∷ []) d ≡ true) → IfOk r (IsOwnDraft o)
-      by (Ok d) is formed = is_own o d (own d is) formed
-      by (Err e) is formed = tt
+    (made : IfOk r (λ d. (b : List ℕ) → d ≡ whole_selection (outlined o b) o.header copy)) where
+  own : (d : Draft) → ((b : List ℕ) → d ≡ whole_selection (outlined o b) o.header copy) → d ≡ own_draft o
+  own d is = is [] ∙ ap (whole_selection (outlined o []) o.header) same
 
   pub draft_answer : IfOk r (λ d. d ≡ own_draft o)
   draft_answer = IfOk-weaker r _ _ own made

@@ -167,15 +167,15 @@ kinds-own o d names heads b sound own is same =
 
 -- ---- whole selections
 
--- the whole selection of a file's nodes and catalogue is that of the file
+-- the whole selection of a file's nodes and catalogue is that of the file, whatever the bytes
 pub whole-outlined : (o : Outline) (nodes : List Head) (from : Catalogue) (h : Header) (c : Catalogue) → nodes ≡ o.nodes
-    → from ≡ o.layout.catalogue → whole_selection (file_of nodes from) h c ≡ whole_selection (outlined o []) h c
-whole-outlined o nodes from h c same is =
-    (λ i. whole_selection (file_of (same i) (is i)) h c) ∙ whole_selection-file_of (outlined o []) h c
+    → from ≡ o.layout.catalogue → (b : List ℕ) → whole_selection (file_of nodes from) h c ≡ whole_selection (outlined o b) h c
+whole-outlined o nodes from h c same is b =
+    (λ i. whole_selection (file_of (same i) (is i)) h c) ∙ whole_selection-file_of (outlined o b) h c
 
 -- and it is well-formed
 pub whole-well_formed : (o : Outline) (h : Header) (c : Catalogue) (d : Draft) → IsSound o
-    → d ≡ whole_selection (outlined o []) h c → is_well_formed (outlined o [] ∷ []) d ≡ true
-whole-well_formed o h c d sound is =
-    ap (is_well_formed (outlined o [] ∷ [])) is
-    ∙ whole_selection-well_formed (outlined o []) h c (omega (arith, sound.few))
+    → ((b : List ℕ) → d ≡ whole_selection (outlined o b) h c) → (b : List ℕ) → is_well_formed (outlined o b ∷ []) d ≡ true
+whole-well_formed o h c d sound is b =
+    ap (is_well_formed (outlined o b ∷ [])) (is b)
+    ∙ whole_selection-well_formed (outlined o b) h c (omega (arith, sound.few))

@@ -1,11 +1,11 @@
-ghost use Rattle.std.specs.Prelude.{◌≡◌, ◌<◌, ◌^◌, ◌↔◌, true, All, [], ◌∷◌, IfOk, IsTrue, length, suc};
+ghost use Rattle.std.specs.Prelude.{◌≡◌, ◌<◌, ◌^◌, ◌↔◌, ℕ, true, All, List, [], ◌∷◌, IfOk, IsTrue, length, suc};
 ghost use Rattle.bl_format.specs.Schema.{CanBeRead};
 ghost use Rattle.bl_format.specs.Layout.{HasLayout};
 ghost use Rattle.bl_selection.specs.Drafts.{is_well_formed};
 ghost use Rattle.bl_selection.specs.Selection.{draft_of, is_source, whole_selection};
 ghost use Rattle.bl_file.specs.Outlines.{IsSound};
 ghost use Rattle.bl_draft.specs.Kept.{HasIndex, file_of};
-ghost use Rattle.bl_draft.specs.Own.{outlined};
+ghost use Rattle.bl_draft.specs.Own.{IsOwnDraft, outlined};
 ghost use Rattle.bl_draft.specs.Whole.{IsOfAll, all_entries, all_images};
 
 use crate::kept::{entries_by, kept_flags, own_images};
@@ -24,10 +24,15 @@ pub fn whole_draft<P>(
 ) -> Result<Draft, NoMemory>
     requires sound { IsSound opened.now.outline }
     requires catalogue { HasLayout catalogue header.width }
-    ensures draft { IfOk result (λ draft.
-        draft ≡ whole_selection (outlined opened.now.outline []) header catalogue) }
-    ensures well_formed { IfOk result (λ draft.
-        is_well_formed (outlined opened.now.outline [] ∷ []) draft ≡ true) }
+    ensures draft { IfOk result (λ draft. (b : List ℕ) →
+        draft ≡ whole_selection (outlined opened.now.outline b) header catalogue) }
+    ensures well_formed { IfOk result (λ draft. (b : List ℕ) →
+        is_well_formed (outlined opened.now.outline b ∷ []) draft ≡ true) }
+
+    // Under the file's own header and catalogue it is one of the file's own nodes.
+    ensures own { header ≡ opened.now.outline.header
+        → catalogue ≡ opened.now.outline.layout.catalogue
+        → IfOk result (IsOwnDraft opened.now.outline) }
 {
     let outline = &opened.outline;
     let nodes = outline.nodes.as_slice();
