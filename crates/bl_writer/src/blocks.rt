@@ -41,7 +41,7 @@ fn write_node_head(header: &Header, k: u32, head: Head, len: u64, dst: &mut [u8]
 
 /// Writes node `k` of an output as a block: its head with its new address, and its payload in which
 /// each pointer has the address that its target has in the output.
-pub fn write_block<S: Shelf, P: Payload, T: Targets>(
+pub(crate) fn write_block<S: Shelf, P: Payload, T: Targets>(
     output: &Output,
     targets: &T,
     plans: &[Plan],

@@ -13,11 +13,7 @@ mod pending;
 mod plans;
 mod staging;
 
-pub use bl_ptrarrays::Images;
-pub use blocks::write_block;
 pub use fault::WriteFault;
-pub use output::Output;
-pub use plans::{Plan, plans_of};
 pub use staging::{Totals, render};
 
 #[cfg(test)]

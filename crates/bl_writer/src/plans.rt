@@ -44,7 +44,7 @@ pub struct Plan {
 }
 
 /// The plan of each struct of a catalogue, by its number.
-pub fn plans_of(alloc: Global, layout: &Layout) -> Result<Vec<Plan>, NoMemory>
+pub(crate) fn plans_of(alloc: Global, layout: &Layout) -> Result<Vec<Plan>, NoMemory>
     ensures len { IfOk result (λ plans.
         length plans.items ≡ length layout.now.catalogue.structs) }
     ensures plans { IfOk result (λ plans. (s : ℕ) → s < length layout.now.catalogue.structs

@@ -1,10 +1,11 @@
 ghost use Rattle.std.specs.Prelude.{◌==◌, if◌then◌else◌, Some, None, refl};
 
 use crate::element::rewrite_elements;
-use crate::{Images, plans_of};
+use crate::plans::plans_of;
 use bl_format::LayoutFault;
 use bl_layout::Layout;
 use bl_num::{Order, Width};
+use bl_ptrarrays::Images;
 use bl_sdna::parse_catalogue;
 use std::alloc::Global;
 
