@@ -11,7 +11,6 @@ ghost use Rattle.bl_file.specs.Held.{IsHeldAnd};
 ghost use Rattle.bl_file.specs.Opening.{file_in};
 ghost use Rattle.bl_file.specs.Outlines.{IsSound, StandsFor};
 ghost use Rattle.bl_draft.specs.Own.{IsOwnDraft};
-ghost use Rattle.bl_draft.specs.Whole.{IsOfAll};
 ghost use Rattle.bl_writer.specs.Faults.{HasWriteCause, IsRefusal};
 ghost use Rattle.bl_writer.specs.Outputs.{IsOutput, ArePlans, output_length, output_scratch, block_bytes, outputs_length, OutputFits, OutputScratchFits, output_form, selection_form};
 ghost use Rattle.bl_writer.specs.Rendering.{end_written, form_length, staged_as, AddsOf, HasRoom, Takes};
@@ -339,59 +338,8 @@ fn render_output<S: Shelf, P: Payload, T: Targets>(
     }
 }
 
-// Stages a draft of all nodes of its file, each as its own image. The nodes, their kinds and what
-// addresses name are taken as the file has them.
-fn render_whole<S: Shelf, P: Payload>(
-    alloc: Global,
-    draft: &Draft,
-    outline: &Outline,
-    payload: &mut P,
-    shelf: &mut S,
-    name: &str,
-) -> Result<Totals, ShelfFault>
-    requires sound { IsSound outline.now }
-    requires own { IsOwnDraft outline.now draft.now }
-    requires all { IsOfAll (length outline.now.nodes) draft.now }
-    requires few { length draft.now.entries ≤ most_output_nodes }
-    requires size { P.file_size payload.old ≡ outline.now.size }
-    requires held { IsHeldAnd (S.told shelf.old) (P.file_name payload.old)
-        (λ b. P.agrees payload.old b × StandsFor b outline.now) }
-    requires staged { S.room shelf.old ≡ None }
-    ensures staged { OnOk result (IsHeldAnd (S.told shelf.old) (P.file_name payload.old) (λ b.
-        S.told shelf.new ≡ option_map (staged_as name.now
-        (selection_form (file_in b ∷ []) draft.now)) (S.told shelf.old))) }
-    ensures room { OnOk result (S.room shelf.new ≡ Some 0) }
-    ensures blocks { IfOk result (λ totals. totals.blocks ≡ length draft.now.entries) }
-    ensures bytes { IfOk result (λ totals.
-        IsHeldAnd (S.told shelf.old) (P.file_name payload.old) (λ b.
-        totals.bytes ≡ length (selection_form (file_in b ∷ []) draft.now))) }
-    ensures held_same { held_of (S.told shelf.new) ≡ held_of (S.told shelf.old) }
-    ensures room_err { OnErr result (S.room shelf.new ≡ None) }
-    ensures cause { HasCause (S.faults shelf.old) (S.faults shelf.new)
-        (S.misses shelf.old) (S.misses shelf.new) result }
-    ensures absent { IsErrOf result ShelfFault.Absent → S.told shelf.old ≡ None }
-    ensures name { P.file_name payload.new ≡ P.file_name payload.old }
-    ensures size { P.file_size payload.new ≡ P.file_size payload.old }
-    ensures held { IsHeldAnd (S.told shelf.old) (P.file_name payload.old)
-        (λ b. P.agrees payload.new b × StandsFor b outline.now) }
-{
-    let plans = match plans_of(alloc, &outline.layout) {
-        Ok(plans) => plans,
-        Err(_) => return Err(ShelfFault::NoMemory),
-    };
-    let targets = FileTargets {
-        table: &outline.table,
-    };
-    let output = Output {
-        header: outline.header,
-        layout: &outline.layout,
-        nodes: outline.nodes.as_slice(),
-        kinds: outline.kinds.as_slice(),
-    };
-    render_output(alloc, &output, &targets, &plans, payload, shelf, name)
-}
-
-// Stages a draft of few enough nodes of one file.
+// Stages a draft of few enough nodes of one file. Of a draft of all nodes, each as its own image,
+// the nodes, their kinds and what addresses name are taken as the file has them.
 fn render_few<S: Shelf, P: Payload>(
     alloc: Global,
     draft: &Draft,
@@ -425,8 +373,22 @@ fn render_few<S: Shelf, P: Payload>(
     ensures held { IsHeldAnd (S.told shelf.old) (P.file_name payload.old)
         (λ b. P.agrees payload.new b × StandsFor b outline.now) }
 {
-    if is_of_all(draft, outline.nodes.as_slice().len()) {
-        return render_whole(alloc, draft, outline, payload, shelf, name);
+    let plans = match plans_of(alloc, &outline.layout) {
+        Ok(plans) => plans,
+        Err(_) => return Err(ShelfFault::NoMemory),
+    };
+    let nodes = outline.nodes.as_slice();
+    if is_of_all(draft, nodes.len()) {
+        let targets = FileTargets {
+            table: &outline.table,
+        };
+        let output = Output {
+            header: outline.header,
+            layout: &outline.layout,
+            nodes,
+            kinds: outline.kinds.as_slice(),
+        };
+        return render_output(alloc, &output, &targets, &plans, payload, shelf, name);
     }
     let heads = match heads_of(alloc, outline, draft) {
         Ok(heads) => heads,
@@ -434,10 +396,6 @@ fn render_few<S: Shelf, P: Payload>(
     };
     let targets = match targets_of(alloc, outline, draft) {
         Ok(targets) => targets,
-        Err(_) => return Err(ShelfFault::NoMemory),
-    };
-    let plans = match plans_of(alloc, &outline.layout) {
-        Ok(plans) => plans,
         Err(_) => return Err(ShelfFault::NoMemory),
     };
     let kinds = kinds_of_entries(alloc, outline, draft, &heads, &targets, payload, shelf)?;
