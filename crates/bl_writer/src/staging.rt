@@ -408,58 +408,6 @@ fn render_few<S: Shelf, P: Payload>(
     render_output(alloc, &output, &targets, &plans, payload, shelf, name)
 }
 
-// Stages a draft of nodes of one file, unless it has too many.
-fn render_source<S: Shelf, P: Payload>(
-    alloc: Global,
-    draft: &Draft,
-    source: &mut Opened<P>,
-    shelf: &mut S,
-    name: &str,
-) -> Result<Totals, WriteFault>
-    requires sound { IsSound source.old.outline }
-    requires own { IsOwnDraft source.old.outline draft.now }
-    requires size { P.file_size source.old.payload ≡ source.old.outline.size }
-    requires held { IsHeldAnd (S.told shelf.old) (P.file_name source.old.payload)
-        (λ b. P.agrees source.old.payload b × StandsFor b source.old.outline) }
-    requires staged { S.room shelf.old ≡ None }
-    ensures staged { OnOk result (IsHeldAnd (S.told shelf.old) (P.file_name source.old.payload)
-        (λ b. S.told shelf.new ≡ option_map (staged_as name.now
-        (selection_form (file_in b ∷ []) draft.now)) (S.told shelf.old))) }
-    ensures room { OnOk result (S.room shelf.new ≡ Some 0) }
-    ensures blocks { IfOk result (λ totals. totals.blocks ≡ length draft.now.entries) }
-    ensures bytes { IfOk result (λ totals.
-        IsHeldAnd (S.told shelf.old) (P.file_name source.old.payload) (λ b.
-        totals.bytes ≡ length (selection_form (file_in b ∷ []) draft.now))) }
-    ensures few { OnOk result (length draft.now.entries ≤ most_output_nodes) }
-    ensures refuses { IfErr result (IsRefusal (length draft.now.entries)) }
-    ensures held_same { held_of (S.told shelf.new) ≡ held_of (S.told shelf.old) }
-    ensures room_err { OnErr result (S.room shelf.new ≡ None) }
-    ensures cause { HasWriteCause (S.faults shelf.old) (S.faults shelf.new)
-        (S.misses shelf.old) (S.misses shelf.new) result }
-    ensures absent { IsErrOf result WriteFault.Absent → S.told shelf.old ≡ None }
-    ensures outline { source.new.outline ≡ source.old.outline }
-    ensures name { P.file_name source.new.payload ≡ P.file_name source.old.payload }
-    ensures size { P.file_size source.new.payload ≡ P.file_size source.old.payload }
-    ensures held { IsHeldAnd (S.told shelf.old) (P.file_name source.old.payload)
-        (λ b. P.agrees source.new.payload b × StandsFor b source.old.outline) }
-{
-    let count = draft.entries.as_slice().len() as u64;
-    if count > MOST_OUTPUT_NODES {
-        return Err(WriteFault::TooManyBlocks(count));
-    }
-    match render_few(
-        alloc,
-        draft,
-        &source.outline,
-        &mut source.payload,
-        shelf,
-        name,
-    ) {
-        Ok(totals) => Ok(totals),
-        Err(fault) => Err(write_fault(fault)),
-    }
-}
-
 /// Stages the written form of a draft's selection under a name. The draft has nodes of one opened
 /// file, under the file's own header and catalogue. The caller commits. After a refusal nothing is
 /// staged. All memory is taken by the end of `stage`.
@@ -508,5 +456,20 @@ pub fn render<S: Shelf, P: Payload>(
     ensures held { All (λ s. IsHeldAnd (S.told shelf.old) (P.file_name s.payload)
         (λ b. P.agrees s.payload b × StandsFor b s.outline)) sources.new }
 {
-    render_source(alloc, draft, &mut sources[0], shelf, name)
+    let count = draft.entries.as_slice().len() as u64;
+    if count > MOST_OUTPUT_NODES {
+        return Err(WriteFault::TooManyBlocks(count));
+    }
+    let source = &mut sources[0];
+    match render_few(
+        alloc,
+        draft,
+        &source.outline,
+        &mut source.payload,
+        shelf,
+        name,
+    ) {
+        Ok(totals) => Ok(totals),
+        Err(fault) => Err(write_fault(fault)),
+    }
 }
