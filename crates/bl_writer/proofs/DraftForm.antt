@@ -18,7 +18,7 @@ use Rattle.bl_file.specs.Outlines.{IsNodeIn, ArePairsLong, IsSound, StandsFor}
 use Rattle.bl_file.specs.Seen.{Namings}
 use Rattle.bl_draft.specs.Own.{IsOwnDraft, own_names, outlined, entry_head, entry_heads, entry_kinds}
 use Rattle.bl_writer.specs.declared.output.Output.{Output}
-use Rattle.bl_writer.specs.Outputs.{IsOutput, block_bytes, output_form, selection_form}
+use Rattle.bl_writer.specs.Outputs.{IsOutput, ArePlans, block_bytes, output_form, selection_form}
 use Rattle.bl_writer.specs.Rendering.{end_written, staged_as}
 use Rattle.bl_writer.proofs.NumberedTexts.{texts-same}
 use Rattle.bl_writer.proofs.Renderings.{IsHeldAnd-both}
@@ -28,8 +28,8 @@ use Rattle.bl_writer.proofs.SelectionForm.{selection_form-parts}
 pub output_of : (o : Outline) (heads : List Head) (out : Output) (size : ℕ) → IsSound o → out.header ≡ o.header → out.layout.now ≡ o.layout
     → out.nodes.now ≡ heads → length heads ≤ most_output_nodes → size ≡ o.size
     → All (IsNodeIn o.header o.layout.catalogue o.size) heads → length out.kinds.now ≡ length heads → ArePairsLong heads out.kinds.now
-    → IsOutput out size
-output_of o heads out size sound header layout nodes few long all kinds pairs = record {
+    → ArePlans o.layout.catalogue o.layout.width out.plans.now → IsOutput out size
+output_of o heads out size sound header layout nodes few long all kinds pairs plans = record {
   version = rw header sound.version;
   width = rw (header, layout) sound.width;
   has_layout = rw layout sound.has_layout;
@@ -39,6 +39,7 @@ output_of o heads out size sound header layout nodes few long all kinds pairs = 
   nodes = rw (header, layout, nodes, long) all;
   kinds = rw nodes kinds;
   pairs = rw nodes pairs;
+  plans = rw layout plans;
 }
 
 module _ (o : Outline) (d : Draft) (out : Output) (names : Namings) (sound : IsSound o) (own : IsOwnDraft o d)

@@ -61,6 +61,7 @@ IsOutput-most o size is = record {
       (λ x node. node_most o.header o.layout.now.catalogue size x is.small node) o.nodes.now is.nodes;
   kinds = is.kinds;
   pairs = is.pairs;
+  plans = is.plans;
 }
 
 -- the checks of a node as tests

@@ -23,6 +23,11 @@ use Rattle.bl_writer.specs.Plans.{IsPlanOf, no_plan}
 use Rattle.bl_writer.specs.Payloads.{payload_place, elements_image, raw_image, block_head}
 use Rattle.bl_writer.specs.Rendering.{end_written}
 
+-- plans are those of all structs of a catalogue, by their numbers
+pub record ArePlans (c : Catalogue) (w : Width) (plans : List Plan) : Type 0 where
+  pub len : length plans ≡ length c.structs
+  pub each : (s : ℕ) → s < length c.structs → IsPlanOf c w s (get_or plans s no_plan)
+
 -- an output of a source of so many bytes can be written
 pub record IsOutput (o : Output) (size : ℕ) : Type 0 where
   pub version : (first_version ≤ o.header.version) × (o.header.version ≤ last_version)
@@ -34,11 +39,7 @@ pub record IsOutput (o : Output) (size : ℕ) : Type 0 where
   pub nodes : All (IsNodeIn o.header o.layout.now.catalogue size) o.nodes.now
   pub kinds : length o.kinds.now ≡ length o.nodes.now
   pub pairs : ArePairsLong o.nodes.now o.kinds.now
-
--- plans are those of all structs of a catalogue, by their numbers
-pub record ArePlans (c : Catalogue) (w : Width) (plans : List Plan) : Type 0 where
-  pub len : length plans ≡ length c.structs
-  pub each : (s : ℕ) → s < length c.structs → IsPlanOf c w s (get_or plans s no_plan)
+  pub plans : ArePlans o.layout.now.catalogue o.layout.now.width o.plans.now
 
 -- ---- one node
 

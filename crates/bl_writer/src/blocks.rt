@@ -3,14 +3,13 @@ ghost use Rattle.bl_shelf.specs.Causes.{HasCause};
 ghost use Rattle.bl_format.specs.Limits.{most_output_nodes};
 ghost use Rattle.bl_format.specs.Blocks.{head_size, head_written, code_meant};
 ghost use Rattle.bl_file.specs.Held.{IsHeldAnd};
-ghost use Rattle.bl_writer.specs.Outputs.{IsOutput, ArePlans, output_length, output_scratch, block_bytes};
+ghost use Rattle.bl_writer.specs.Outputs.{IsOutput, output_length, output_scratch, block_bytes};
 ghost use Rattle.bl_writer.specs.Payloads.{block_head};
 
 use crate::node_images::{NodeImages, node_address};
 use crate::nodes::{head_at, kind_at};
 use crate::output::Output;
 use crate::payloads::write_payload;
-use crate::plans::Plan;
 use bl_blocks::{head_size, write_head};
 use bl_file::{Payload, Targets};
 use bl_format::{Head, Header};
@@ -44,7 +43,6 @@ fn write_node_head(header: &Header, k: u32, head: Head, len: u64, dst: &mut [u8]
 pub(crate) fn write_block<S: Shelf, P: Payload, T: Targets>(
     output: &Output,
     targets: &T,
-    plans: &[Plan],
     payload: &mut P,
     shelf: &mut S,
     k: u32,
@@ -53,8 +51,6 @@ pub(crate) fn write_block<S: Shelf, P: Payload, T: Targets>(
 ) -> Result<(), ShelfFault>
     requires output { IsOutput output.now (P.file_size payload.old) }
     requires targets { T.count targets.now ≡ length output.now.nodes.now }
-    requires plans { ArePlans output.now.layout.now.catalogue output.now.layout.now.width
-        plans.now }
     requires held { IsHeldAnd (S.told shelf.old) (P.file_name payload.old) (P.agrees payload.old) }
     requires k { k < length output.now.nodes.now }
     requires scratch { output_scratch output.now k ≤ length scratch.old }
@@ -79,7 +75,5 @@ pub(crate) fn write_block<S: Shelf, P: Payload, T: Targets>(
     let kind = kind_at(output, k);
     write_node_head(&output.header, k, head, body.len() as u64, own);
     let images = NodeImages::new(targets, k);
-    write_payload(
-        output, plans, head, kind, &images, payload, shelf, scratch, body,
-    )
+    write_payload(output, head, kind, &images, payload, shelf, scratch, body)
 }

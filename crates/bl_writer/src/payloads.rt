@@ -8,12 +8,10 @@ ghost use Rattle.bl_file.specs.Held.{IsHeldAnd};
 ghost use Rattle.bl_file.specs.Outlines.{IsNodeIn};
 ghost use Rattle.bl_writer.specs.Outputs.{ArePlans, written_length, scratch_of, payload_bytes};
 ghost use Rattle.bl_writer.specs.Payloads.{payload_place, elements_image, pointers_image, raw_image};
-ghost use Rattle.bl_writer.specs.Plans.{IsPlanOf};
 
 use crate::element::rewrite_elements;
 use crate::nodes::{holds_pointers, payload_place};
 use crate::output::Output;
-use crate::plans::Plan;
 use bl_file::Payload;
 use bl_format::{Head, RawKind};
 use bl_num::Form;
@@ -23,18 +21,16 @@ use bl_shelf::{Shelf, ShelfFault};
 // Writes all elements of a struct node. They are read where they are written, and rewritten there.
 fn write_elements<I: Images, S: Shelf, P: Payload>(
     output: &Output,
-    plan: &Plan,
     head: Head,
-    len: usize,
     images: &I,
     payload: &mut P,
     shelf: &mut S,
     dst: &mut [u8],
 ) -> Result<(), ShelfFault>
     requires layout { HasLayout output.now.layout.now.catalogue output.now.layout.now.width }
-    requires plan { IsPlanOf output.now.layout.now.catalogue output.now.layout.now.width head.index
-        plan.now }
-    requires len { len ≡ struct_length output.now.layout.now.catalogue head.index }
+    requires plans { ArePlans output.now.layout.now.catalogue output.now.layout.now.width
+        output.now.plans.now }
+    requires index { head.index < length output.now.layout.now.catalogue.structs }
     requires dst { length dst.old
         ≡ head.count * struct_length output.now.layout.now.catalogue head.index }
     requires inside { payload_place output.now.header head + length dst.old
@@ -57,10 +53,13 @@ fn write_elements<I: Images, S: Shelf, P: Payload>(
     ensures absent { IsErrOf result ShelfFault.Absent → S.told shelf.old ≡ None }
     ensures no_memory { result ≢ Err ShelfFault.NoMemory }
 {
+    let len = output.layout.length(head.index) as usize;
+    // A head may claim 2^31 elements of no bytes, which would be as many turns for nothing.
     if len == 0 {
         return Ok(());
     }
     payload.copy_out(shelf, payload_place(output, head), dst)?;
+    let plan = &output.plans[head.index as usize];
     rewrite_elements(plan, output.header.order, len, head.count, images, dst);
     Ok(())
 }
@@ -152,7 +151,6 @@ fn write_raw<I: Images, S: Shelf, P: Payload>(
 /// Writes the payload of a node.
 pub(crate) fn write_payload<I: Images, S: Shelf, P: Payload>(
     output: &Output,
-    plans: &[Plan],
     head: Head,
     kind: RawKind,
     images: &I,
@@ -163,7 +161,7 @@ pub(crate) fn write_payload<I: Images, S: Shelf, P: Payload>(
 ) -> Result<(), ShelfFault>
     requires layout { HasLayout output.now.layout.now.catalogue output.now.layout.now.width }
     requires plans { ArePlans output.now.layout.now.catalogue output.now.layout.now.width
-        plans.now }
+        output.now.plans.now }
     requires node { IsNodeIn output.now.header output.now.layout.now.catalogue
         (P.file_size payload.old) head }
     requires small { P.file_size payload.old < 2 ^ 63 }
@@ -188,7 +186,5 @@ pub(crate) fn write_payload<I: Images, S: Shelf, P: Payload>(
     if head.index == 0 {
         return write_raw(output, head, kind, images, payload, shelf, scratch, dst);
     }
-    let len = output.layout.length(head.index) as usize;
-    let plan = &plans[head.index as usize];
-    write_elements(output, plan, head, len, images, payload, shelf, dst)
+    write_elements(output, head, images, payload, shelf, dst)
 }

@@ -12,7 +12,7 @@ ghost use Rattle.bl_file.specs.Opening.{file_in};
 ghost use Rattle.bl_file.specs.Outlines.{IsSound, StandsFor};
 ghost use Rattle.bl_draft.specs.Own.{IsOwnDraft};
 ghost use Rattle.bl_writer.specs.Faults.{HasWriteCause, IsRefusal};
-ghost use Rattle.bl_writer.specs.Outputs.{IsOutput, ArePlans, output_length, output_scratch, block_bytes, outputs_length, OutputFits, OutputScratchFits, output_form, selection_form};
+ghost use Rattle.bl_writer.specs.Outputs.{IsOutput, output_length, output_scratch, block_bytes, outputs_length, OutputFits, OutputScratchFits, output_form, selection_form};
 ghost use Rattle.bl_writer.specs.Rendering.{end_written, form_length, staged_as, AddsOf, HasRoom, Takes};
 
 use crate::blocks::write_block;
@@ -21,7 +21,7 @@ use crate::measure::measure;
 use crate::nodes::output_length;
 use crate::output::Output;
 use crate::pending::{add_bytes, make_room};
-use crate::plans::{Plan, plans_of};
+use crate::plans::plans_of;
 use bl_blocks::{head_size, write_head};
 use bl_draft::{Draft, heads_of, is_of_all, kinds_of_entries, targets_of};
 use bl_file::{FileTargets, Head, Header, Opened, Outline, Payload, Targets};
@@ -55,7 +55,6 @@ pub struct Totals {
 fn add_block<S: Shelf, P: Payload, T: Targets>(
     output: &Output,
     targets: &T,
-    plans: &[Plan],
     payload: &mut P,
     k: u32,
     scratch: &mut [u8],
@@ -65,8 +64,6 @@ fn add_block<S: Shelf, P: Payload, T: Targets>(
 ) -> Result<usize, ShelfFault>
     requires output { IsOutput output.now (P.file_size payload.old) }
     requires targets { T.count targets.now ≡ length output.now.nodes.now }
-    requires plans { ArePlans output.now.layout.now.catalogue output.now.layout.now.width
-        plans.now }
     requires held { IsHeldAnd (S.told shelf.old) (P.file_name payload.old) (P.agrees payload.old) }
     requires k { k < length output.now.nodes.now }
     requires scratch { output_scratch output.now k ≤ length scratch.old }
@@ -95,7 +92,7 @@ fn add_block<S: Shelf, P: Payload, T: Targets>(
     let at = make_room(shelf, buffer, filled, len)?;
     let (_, rest) = buffer.split_at_mut(at);
     let (own, _) = rest.split_at_mut(len);
-    write_block(output, targets, plans, payload, shelf, k, scratch, own)?;
+    write_block(output, targets, payload, shelf, k, scratch, own)?;
     Ok(at + len)
 }
 
@@ -103,7 +100,6 @@ fn add_block<S: Shelf, P: Payload, T: Targets>(
 fn add_blocks<S: Shelf, P: Payload, T: Targets>(
     output: &Output,
     targets: &T,
-    plans: &[Plan],
     payload: &mut P,
     scratch: &mut [u8],
     shelf: &mut S,
@@ -112,8 +108,6 @@ fn add_blocks<S: Shelf, P: Payload, T: Targets>(
 ) -> Result<usize, ShelfFault>
     requires output { IsOutput output.now (P.file_size payload.old) }
     requires targets { T.count targets.now ≡ length output.now.nodes.now }
-    requires plans { ArePlans output.now.layout.now.catalogue output.now.layout.now.width
-        plans.now }
     requires held { IsHeldAnd (S.told shelf.old) (P.file_name payload.old) (P.agrees payload.old) }
     requires scratch { OutputScratchFits output.now (length scratch.old) }
     requires len { OutputFits output.now (length buffer.old) }
@@ -141,9 +135,7 @@ fn add_blocks<S: Shelf, P: Payload, T: Targets>(
 {
     let mut mark = filled;
     for k in 0..output.nodes.len() as u32 {
-        mark = add_block(
-            output, targets, plans, payload, k, scratch, shelf, buffer, mark,
-        )?;
+        mark = add_block(output, targets, payload, k, scratch, shelf, buffer, mark)?;
     }
     Ok(mark)
 }
@@ -216,7 +208,6 @@ fn add_end<S: Shelf>(
 fn write_all<S: Shelf, P: Payload, T: Targets>(
     output: &Output,
     targets: &T,
-    plans: &[Plan],
     payload: &mut P,
     catalogue: &[u8],
     scratch: &mut [u8],
@@ -225,8 +216,6 @@ fn write_all<S: Shelf, P: Payload, T: Targets>(
 ) -> Result<(), ShelfFault>
     requires output { IsOutput output.now (P.file_size payload.old) }
     requires targets { T.count targets.now ≡ length output.now.nodes.now }
-    requires plans { ArePlans output.now.layout.now.catalogue output.now.layout.now.width
-        plans.now }
     requires held { IsHeldAnd (S.told shelf.old) (P.file_name payload.old) (P.agrees payload.old) }
     requires catalogue { catalogue.now
         ≡ catalogue_written output.now.header.order output.now.layout.now.catalogue }
@@ -253,9 +242,7 @@ fn write_all<S: Shelf, P: Payload, T: Targets>(
 {
     let header = &output.header;
     let mark = add_bytes(&write_header(header), shelf, buffer, 0)?;
-    let mark = add_blocks(
-        output, targets, plans, payload, scratch, shelf, buffer, mark,
-    )?;
+    let mark = add_blocks(output, targets, payload, scratch, shelf, buffer, mark)?;
     let mark = add_catalogue(header, catalogue, shelf, buffer, mark)?;
     let mark = add_end(header, shelf, buffer, mark)?;
     shelf.push(&buffer[..mark])
@@ -277,15 +264,12 @@ fn render_output<S: Shelf, P: Payload, T: Targets>(
     alloc: Global,
     output: &Output,
     targets: &T,
-    plans: &[Plan],
     payload: &mut P,
     shelf: &mut S,
     name: &str,
 ) -> Result<Totals, ShelfFault>
     requires output { IsOutput output.now (P.file_size payload.old) }
     requires targets { T.count targets.now ≡ length output.now.nodes.now }
-    requires plans { ArePlans output.now.layout.now.catalogue output.now.layout.now.width
-        plans.now }
     requires held { IsHeldAnd (S.told shelf.old) (P.file_name payload.old) (P.agrees payload.old) }
     requires staged { S.room shelf.old ≡ None }
     ensures staged { OnOk result (IsHeldAnd (S.told shelf.old) (P.file_name payload.old) (λ b.
@@ -323,7 +307,6 @@ fn render_output<S: Shelf, P: Payload, T: Targets>(
     match write_all(
         output,
         targets,
-        plans,
         payload,
         &catalogue,
         &mut scratch,
@@ -387,8 +370,9 @@ fn render_few<S: Shelf, P: Payload>(
             layout: &outline.layout,
             nodes,
             kinds: outline.kinds.as_slice(),
+            plans: &plans,
         };
-        return render_output(alloc, &output, &targets, &plans, payload, shelf, name);
+        return render_output(alloc, &output, &targets, payload, shelf, name);
     }
     let heads = match heads_of(alloc, outline, draft) {
         Ok(heads) => heads,
@@ -404,8 +388,9 @@ fn render_few<S: Shelf, P: Payload>(
         layout: &outline.layout,
         nodes: &heads,
         kinds: &kinds,
+        plans: &plans,
     };
-    render_output(alloc, &output, &targets, &plans, payload, shelf, name)
+    render_output(alloc, &output, &targets, payload, shelf, name)
 }
 
 /// Stages the written form of a draft's selection under a name. The draft has nodes of one opened

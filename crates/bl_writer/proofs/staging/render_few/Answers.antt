@@ -10,6 +10,7 @@ use Rattle.bl_draft.proofs.OwnDrafts.{IsDraftOf-own}
 use Rattle.bl_draft.proofs.OutlineFacts.{sound-length-table}
 use Rattle.bl_draft.proofs.AllNodes.{nodes-known, kinds-known, length-nodes, names-by_table}
 use Rattle.bl_writer.specs.declared.output.Output.{Output}
+use Rattle.bl_writer.specs.Outputs.{ArePlans}
 use Rattle.bl_writer.proofs.HeldFacts.{held_weaker}
 use Rattle.bl_writer.proofs.DraftForm.{output_of, draft_staged, draft_bytes}
 use Rattle.bl_writer.proofs.staging.render_few.Goals as goal
@@ -30,7 +31,7 @@ returns-then-is_of_all-clause-staged g c =
     let told = g.S.Shelf.told c.args.shelf.now in
     let name = g.P.Payload.file_name c.args.payload.now in
     let all = subst (λ n. IsOfAll n d) (ap (λ (xs : List Head). length xs) c.as_slice-nodes.ensures) (c.if-is_of_all.ensures.0 refl) in
-    let out : Output = record { header = o.header; layout = record { ref_ptr = c.args.outline.ref_ptr; now = o.layout }; nodes = c.as_slice-nodes.result; kinds = c.as_slice.result } in
+    let out : Output = record { header = o.header; layout = record { ref_ptr = c.args.outline.ref_ptr; now = o.layout }; nodes = c.as_slice-nodes.result; kinds = c.as_slice.result; plans = c.deref.result } in
     let kinds : IsHeldAnd told name (λ b. out.kinds.now ≡ entry_kinds (outlined o b) d) =
     held_weaker told name (λ b. g.P.Payload.agrees c.args.payload.now b × StandsFor b o) _ c.requires.held
     (λ b is. kinds-known o b d out.kinds.now c.requires.sound c.requires.own all c.as_slice.ensures is.1) in
@@ -54,7 +55,7 @@ returns-then-is_of_all-clause-bytes g c =
     let told = g.S.Shelf.told c.args.shelf.now in
     let name = g.P.Payload.file_name c.args.payload.now in
     let all = subst (λ n. IsOfAll n d) (ap (λ (xs : List Head). length xs) c.as_slice-nodes.ensures) (c.if-is_of_all.ensures.0 refl) in
-    let out : Output = record { header = o.header; layout = record { ref_ptr = c.args.outline.ref_ptr; now = o.layout }; nodes = c.as_slice-nodes.result; kinds = c.as_slice.result } in
+    let out : Output = record { header = o.header; layout = record { ref_ptr = c.args.outline.ref_ptr; now = o.layout }; nodes = c.as_slice-nodes.result; kinds = c.as_slice.result; plans = c.deref.result } in
     let kinds : IsHeldAnd told name (λ b. out.kinds.now ≡ entry_kinds (outlined o b) d) =
     held_weaker told name (λ b. g.P.Payload.agrees c.args.payload.now b × StandsFor b o) _ c.requires.held
     (λ b is. kinds-known o b d out.kinds.now c.requires.sound c.requires.own all c.as_slice.ensures is.1) in
@@ -67,6 +68,7 @@ returns-then-is_of_all-clause-bytes g c =
 
 pub render_output-requires-2-clause-output : goal.render_output-requires-2-clause-output
 render_output-requires-2-clause-output g c =
+    let l = c.args.outline.now.layout in
     let heads = c.in-Ok-heads_of.heads.items in
     let kinds = c.in_ok-kinds.kinds.items in
     let pairs : ArePairsLong heads c.deref-4.result.now =
@@ -75,11 +77,12 @@ render_output-requires-2-clause-output g c =
     output_of c.args.outline.now heads _ _ c.requires.sound refl refl c.deref-3.ensures.value
     (omega (arith, c.in-Ok-heads_of.ensures.len, c.requires.few)) (c.in_ok-kinds.ensures.size ∙ c.requires.size) c.in-Ok-heads_of.ensures.nodes
     (ap (λ (ks : List RawKind). length ks) c.deref-4.ensures.value ∙ c.in_ok-kinds.ensures.len ∙ sym c.in-Ok-heads_of.ensures.len) pairs
+    (subst (ArePlans l.catalogue l.width) (sym c.deref-5.ensures.value) (record { len = c.in-Ok.ensures.len; each = c.in-Ok.ensures.plans }))
 
 pub returns-clause-staged : goal.returns-clause-staged
 returns-clause-staged g c =
     let o = c.args.outline.now in
-    let out : Output = record { header = o.header; layout = record { ref_ptr = c.args.outline.ref_ptr; now = o.layout }; nodes = c.deref-3.result; kinds = c.deref-4.result } in
+    let out : Output = record { header = o.header; layout = record { ref_ptr = c.args.outline.ref_ptr; now = o.layout }; nodes = c.deref-3.result; kinds = c.deref-4.result; plans = c.deref-5.result } in
     let kinds : IsHeldAnd (g.S.Shelf.told c.args.shelf.now) (g.P.Payload.file_name c.args.payload.now) (λ b. out.kinds.now ≡ entry_kinds (outlined o b) c.args.draft.now) =
     subst (λ (ks : List RawKind). IsHeldAnd (g.S.Shelf.told c.args.shelf.now) (g.P.Payload.file_name c.args.payload.now) (λ b. ks ≡ entry_kinds (outlined o b) c.args.draft.now))
     (sym c.deref-4.ensures.value) c.in_ok-kinds.ensures.kinds in
@@ -92,7 +95,7 @@ returns-clause-staged g c =
 pub returns-clause-bytes : goal.returns-clause-bytes
 returns-clause-bytes g c =
     let o = c.args.outline.now in
-    let out : Output = record { header = o.header; layout = record { ref_ptr = c.args.outline.ref_ptr; now = o.layout }; nodes = c.deref-3.result; kinds = c.deref-4.result } in
+    let out : Output = record { header = o.header; layout = record { ref_ptr = c.args.outline.ref_ptr; now = o.layout }; nodes = c.deref-3.result; kinds = c.deref-4.result; plans = c.deref-5.result } in
     let kinds : IsHeldAnd (g.S.Shelf.told c.args.shelf.now) (g.P.Payload.file_name c.args.payload.now) (λ b. out.kinds.now ≡ entry_kinds (outlined o b) c.args.draft.now) =
     subst (λ (ks : List RawKind). IsHeldAnd (g.S.Shelf.told c.args.shelf.now) (g.P.Payload.file_name c.args.payload.now) (λ b. ks ≡ entry_kinds (outlined o b) c.args.draft.now))
     (sym c.deref-4.ensures.value) c.in_ok-kinds.ensures.kinds in
