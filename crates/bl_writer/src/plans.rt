@@ -1,4 +1,4 @@
-// How elements of structs are copied.
+// How elements of structs are rewritten where they stand.
 ghost use Rattle.std.specs.Prelude.{◌≡◌, ◌<◌, ◌+◌, ◌*◌, ◌-◌, ◌^◌, ℕ, All, IfOk, get_or, length};
 ghost use Rattle.bl_num.specs.Numbers.{IsWholeLength};
 ghost use Rattle.bl_layout.specs.LeafFacts.{AreApart};
@@ -27,17 +27,17 @@ pub struct Slots {
     pub count: u32,
 }
 
-/// What is done to copy a part of an element.
+/// What becomes of a part of an element.
 #[derive(Clone, Copy, Debug)]
 pub enum Step {
-    /// Bytes are copied as they are.
+    /// Bytes stay as they are.
     Bytes(Run),
-    /// The addresses in the output are written for pointers.
+    /// Pointers become the addresses that their targets have in the output.
     Pointers(Slots),
 }
 
-/// How an element of a struct is copied in the same order and at the same width: steps in the order
-/// of the struct's leaves. Bytes that no step writes are zero.
+/// What an element of a struct becomes in the same order and at the same width: steps in the order
+/// of the struct's leaves, one behind another. What no step covers becomes zeros.
 #[derive(Debug, Drop)]
 pub struct Plan {
     pub steps: Items<Step>,
@@ -68,8 +68,8 @@ fn plan_of(alloc: Global, layout: &Layout, s: u32) -> Result<Plan, NoMemory>
     })
 }
 
-// The steps that copy the leaves of a struct of so many bytes. Each is joined with those before it
-// where that is possible.
+// The steps for the leaves of a struct of so many bytes. Each is joined with the last one where that
+// is possible.
 fn steps_of(alloc: Global, leaves: &[Leaf], len: u32) -> Result<Vec<Step>, NoMemory>
     requires leaves { All (CanBeCopied len) leaves.now }
     requires apart { AreApart 0 leaves.now len }
@@ -96,7 +96,7 @@ fn steps_of(alloc: Global, leaves: &[Leaf], len: u32) -> Result<Vec<Step>, NoMem
     Ok(steps)
 }
 
-// The step that copies a leaf.
+// The step for a leaf.
 #[tactic(auto, unfolding(crate::specs::Plans::step_of))]
 fn step_of(leaf: &Leaf) -> Step
     requires { FitsIn leaf.now (2 ^ 32 - 1) }
