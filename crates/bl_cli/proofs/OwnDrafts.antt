@@ -20,7 +20,7 @@ use Rattle.bl_writer.specs.Faults.{IsRefusal}
 use Rattle.bl_cli.specs.Prepared.{IsOutside}
 use Rattle.bl_cli.proofs.Outcomes.{own_draft}
 
--- it has no more entries
+-- it has no more entries than blocks may be
 pub own_few : (o : Outline) (d : Draft) → IsSound o → d ≡ own_draft o → length d.entries ≤ most_blocks
 own_few o d sound is =
     let nodes : List ℕ = numbers_below (length o.nodes) in
@@ -41,13 +41,8 @@ only_outside n faults.Device refusal few = tt
 only_outside n faults.NoMemory refusal few = tt
 
 -- so of what an answer has that is made with a copy of the file's catalogue
-module _ {E : Type 0} (r : Result Draft E) (o : Outline) (copy : Catalogue) (same : copy ≡ o.layout.catalogue)
-    (made : IfOk r (λ d. (b : List ℕ) → d ≡ whole_selection (outlined o b) o.header copy)) where
-  own : (d : Draft) → ((b : List ℕ) → d ≡ whole_selection (outlined o b) o.header copy) → d ≡ own_draft o
-  own d is = is [] ∙ ap (whole_selection (outlined o []) o.header) same
-
-  pub draft_answer : IfOk r (λ d. d ≡ own_draft o)
-  draft_answer = IfOk-weaker r _ _ own made
-
-  pub few_answer : IsSound o → IfOk r (λ d. length d.entries ≤ most_blocks)
-  few_answer sound = IfOk-weaker r _ _ (λ d is. own_few o d sound (own d is)) made
+pub few_answer : {E : Type 0} (r : Result Draft E) (o : Outline) (copy : Catalogue) → copy ≡ o.layout.catalogue
+    → IfOk r (λ d. (b : List ℕ) → d ≡ whole_selection (outlined o b) o.header copy) → IsSound o
+    → IfOk r (λ d. length d.entries ≤ most_blocks)
+few_answer r o copy same made sound =
+    IfOk-weaker r _ _ (λ d is. own_few o d sound (is [] ∙ ap (whole_selection (outlined o []) o.header) same)) made

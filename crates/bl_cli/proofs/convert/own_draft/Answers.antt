@@ -1,11 +1,6 @@
 use Rattle.std.proofs.Common.{refl, ◌∙◌}
-use Rattle.bl_cli.proofs.OwnDrafts.{draft_answer, few_answer}
+use Rattle.bl_cli.proofs.OwnDrafts.{few_answer}
 use Rattle.bl_cli.proofs.convert.own_draft.Goals as goal
-
-pub returns-clause-draft : goal.returns-clause-draft
-returns-clause-draft g c =
-    draft_answer c.whole_draft.result c.args.file.now.outline c.in_ok-catalogue.catalogue (c.in_ok-catalogue.ensures ∙ c.catalogue.ensures.is)
-    c.whole_draft.ensures.draft
 
 pub returns-clause-own : goal.returns-clause-own
 returns-clause-own g c = c.whole_draft.ensures.own refl (c.in_ok-catalogue.ensures ∙ c.catalogue.ensures.is)
