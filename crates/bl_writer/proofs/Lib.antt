@@ -14,6 +14,7 @@ pub mod Renderings
 pub mod OutputForm
 pub mod BlockLengths
 mod DraftForm
+mod SecondGroup
 mod FaultLemmas
 pub mod NumberedTexts
 pub mod SelectionKinds
