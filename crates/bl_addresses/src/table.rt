@@ -81,12 +81,15 @@ impl Table {
     pub fn resolve(&self, group: u32, address: u64) -> Option<u32>
         ensures { result ≡ target_of self.now group address }
     {
-        let own = self.resolve_in_group(group, address);
-        if own.is_some() || address == 0 {
-            return own;
+        match self.resolve_in_group(group, address) {
+            Some(node) => Some(node),
+            None if address == 0 => None,
+            None => last_at(
+                &self.ids,
+                self.buckets.span_of(address, self.ids.len()),
+                Place { part: 0, address },
+            ),
         }
-        let span = self.buckets.span_of(address, self.ids.len());
-        last_at(&self.ids, span, Place { part: 0, address })
     }
 
     /// The node of a group that an address names, where IDs of other groups aren't looked at.
