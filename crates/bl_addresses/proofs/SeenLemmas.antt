@@ -13,7 +13,8 @@ eqb-from : (m n : ℕ) → m ≡ n → (m == n) ≡ true
 eqb-from m n e = grind (arith)
 
 -- the address of a node that has a row, where all its rows have that address
-address_found : (rows : List Row) (r : Row) (a j : ℕ) → ((k : ℕ) (d : Row) → k < length rows → (get_or rows k d).node ≡ r.node → (get_or rows k d).address ≡ a)
+address_found : (rows : List Row) (r : Row) (a j : ℕ)
+    → ((k : ℕ) (d : Row) → k < length rows → (get_or rows k d).node ≡ r.node → (get_or rows k d).address ≡ a)
     → j < length rows → get_or rows j r ≡ r → address_in rows r.node ≡ a
 unfolding address_in
 address_found [] r a j same lt is = absurd (omega (arith, lt))
