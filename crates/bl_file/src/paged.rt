@@ -171,45 +171,36 @@ fn read_page<S: Shelf>(
 #[cfg(test)]
 mod tests {
     use super::*;
-    use bl_shelf::SteadyShelf;
+    use crate::payload::tests::copy_twice;
+    use bl_shelf::MemoryShelf;
     use std::test::Fail;
 
-    // The size of a file and, where it ends 8 bytes behind a page, the last 2 of the page, 4 from the
-    // last one on, and as many as there is room for.
-    fn size_and_parts<P: Payload, S: Shelf>(
-        alloc: Global,
-        shelf: &mut S,
-        name: &str,
-        part: &mut [u8; 6],
-        long: &mut [u8],
-    ) -> Result<u64, ShelfFault> {
-        let size = shelf.size(name)?;
-        let mut payload = P::start(alloc, shelf, name, size)?;
-        if size == 65_544 && long.len() <= 65_544 {
-            payload.copy_out(shelf, 65_534, &mut part[..2])?;
-            payload.copy_out(shelf, 65_535, &mut part[2..])?;
-            payload.copy_out(shelf, 0, long)?;
-        }
-        Ok(size)
-    }
-
+    // The file's size is asked for by call 0, and its first page is read by call 1. So a call 2 is
+    // the first that reads another page, or a part that goes by no page.
     #[test]
     fn copies_parts(rt: HostRuntime) -> Result<(), Fail> {
         let alloc = rt.alloc();
         let mut file = vec![in alloc; b'.'; 65_534]?;
         file.extend_from_slice(b"abcdefghij")?;
-        let mut shelf = SteadyShelf::new(alloc);
-        shelf.hold("a", &file)?;
-        let mut part = [0; 6];
-        let mut long = vec![in alloc; 0; 65_542]?;
-        for (name, want) in [("a", Ok(65_544)), ("b", Err(ShelfFault::Absent))] {
-            let size = size_and_parts::<PagedPayload, SteadyShelf>(
-                alloc, &mut shelf, name, &mut part, &mut long,
-            );
-            assert_eq!(rt; size, want);
+        for (failing, places, len, ended, want) in [
+            (9, [0, 65_534], 2, Ok(()), b"ab".as_slice()),
+            (9, [0, 65_534], 5, Ok(()), b"abcde"),
+            (9, [65_540, 65_535], 4, Ok(()), b"bcde"),
+            (9, [0, 9], 65_535, Ok(()), b".abcdefghij"),
+            (9, [0, 2], 65_542, Ok(()), b".abcdefghij"),
+            (2, [65_537, 65_537], 4, Err(ShelfFault::Failed), b"defg"),
+            (2, [0, 8], 65_536, Err(ShelfFault::Failed), b".abcdefghij"),
+        ] {
+            let fails = vec![in alloc; failing]?;
+            let mut shelf = MemoryShelf::new(alloc, fails, false);
+            shelf.hold("a", &file)?;
+            let mut part = vec![in alloc; 0; len]?;
+            let first = copy_twice::<PagedPayload, MemoryShelf>(
+                alloc, &mut shelf, "a", places, &mut part,
+            )?;
+            assert_eq!(rt; first, ended);
+            assert!(rt; part.ends_with(want));
         }
-        assert_eq!(rt; &part, b"abbcde");
-        assert!(rt; long.ends_with(b".abcdefgh"));
         Ok(())
     }
 }

@@ -67,3 +67,29 @@ pub trait Payload: Sized + Drop {
     ghost agreed_bytes: { (p : Self) (bytes : List ℕ) → agrees p bytes
         → All (λ byte. byte < 256) bytes };
 }
+
+#[cfg(test)]
+pub(crate) mod tests {
+    use super::*;
+
+    // Copies the part at one place of a file and then, over it, the one at another, and answers what
+    // the first copy ends with.
+    pub(crate) fn copy_twice<P: Payload, S: Shelf>(
+        alloc: Global,
+        shelf: &mut S,
+        name: &str,
+        places: [u64; 2],
+        part: &mut [u8],
+    ) -> Result<Result<(), ShelfFault>, ShelfFault> {
+        let size = shelf.size(name)?;
+        let mut payload = P::start(alloc, shelf, name, size)?;
+        let [first, second] = places;
+        let len = part.len() as u64;
+        if size < len || size - len < first || size - len < second {
+            return Err(ShelfFault::Absent);
+        }
+        let ended = payload.copy_out(shelf, first, part);
+        payload.copy_out(shelf, second, part)?;
+        Ok(ended)
+    }
+}

@@ -56,52 +56,26 @@ impl Payload for WholePayload {
 #[cfg(test)]
 mod tests {
     use super::*;
-    use bl_num::NoMemory;
+    use crate::payload::tests::copy_twice;
     use bl_shelf::SteadyShelf;
-
-    // The size of a file and, where it has four bytes, the last two of these.
-    fn size_and_part<P: Payload, S: Shelf>(
-        alloc: Global,
-        shelf: &mut S,
-        name: &str,
-        dst: &mut [u8; 2],
-    ) -> Result<u64, ShelfFault> {
-        let size = shelf.size(name)?;
-        let mut payload = P::start(alloc, shelf, name, size)?;
-        if size >= 4 {
-            payload.copy_out(shelf, 2, dst)?;
-        }
-        Ok(size)
-    }
+    use std::test::Fail;
 
     #[test]
-    fn copies_a_middle_part(rt: HostRuntime) -> Result<(), NoMemory> {
-        let mut shelf = SteadyShelf::new(rt.alloc());
-        shelf.hold("a", b"abcdef")?;
-        shelf.hold("b", b"abc")?;
-        let mut part = [0u8; 2];
-        let size = size_and_part::<WholePayload, SteadyShelf>(
-            rt.alloc(),
-            &mut shelf,
-            "a",
-            &mut part,
-        );
-        assert_eq!(rt; size, Ok(6));
-        assert_eq!(rt; &part, b"cd");
-        let size = size_and_part::<WholePayload, SteadyShelf>(
-            rt.alloc(),
-            &mut shelf,
-            "b",
-            &mut part,
-        );
-        assert_eq!(rt; size, Ok(3));
-        let size = size_and_part::<WholePayload, SteadyShelf>(
-            rt.alloc(),
-            &mut shelf,
-            "c",
-            &mut part,
-        );
-        assert_eq!(rt; size, Err(ShelfFault::Absent));
+    fn copies_parts(rt: HostRuntime) -> Result<(), Fail> {
+        let alloc = rt.alloc();
+        for (bytes, places, want) in [
+            (b"abcdef".as_slice(), [3, 2], b"cd"),
+            (b"abc", [0, 1], b"bc"),
+        ] {
+            let mut shelf = SteadyShelf::new(alloc);
+            shelf.hold("a", bytes)?;
+            let mut part = [0u8; 2];
+            let first = copy_twice::<WholePayload, SteadyShelf>(
+                alloc, &mut shelf, "a", places, &mut part,
+            )?;
+            assert_eq!(rt; first, Ok(()));
+            assert_eq!(rt; &part, want);
+        }
         Ok(())
     }
 }
