@@ -73,27 +73,31 @@ fn schema_of(alloc: Global, words: &[String]) -> Result<Option<Command>, NoMemor
 mod tests {
     use super::*;
 
-    fn command(alloc: Global, words: &[&str]) -> Result<Option<Command>, NoMemory> {
+    // Whether words spell a conversion of a file to another.
+    fn convert(alloc: Global, words: &[&str], from: &str, to: &str) -> Result<bool, NoMemory> {
         let mut owned = Vec::new(alloc);
         for word in words {
             owned.push(String::from_str(alloc, word)?)?;
         }
-        command_of(alloc, &owned)
+        match command_of(alloc, &owned)? {
+            Some(Command::Convert { input, out, .. }) => {
+                Ok(input.as_str() == from && out.as_str() == to)
+            }
+            _ => Ok(false),
+        }
     }
 
     #[test]
     fn converts(rt: HostRuntime) -> Result<(), NoMemory> {
-        let alloc = rt.alloc();
-        let spelled = command(alloc, &["convert", "a", "b"])?;
-        match &spelled {
-            Some(Command::Convert { input, out, .. }) => {
-                assert_eq!(rt; input.as_str(), "a");
-                assert_eq!(rt; out.as_str(), "b");
-            }
-            _ => assert!(rt; false, "no conversion"),
+        for (words, want) in [
+            (["convert", "a", "b"].as_slice(), true),
+            (&["convert", "b", "a"], false),
+            (&["convert", "a", "b", "--width", "5"], false),
+            (&["schema", "a"], false),
+            (&[], false),
+        ] {
+            assert_eq!(rt; convert(rt.alloc(), words, "a", "b")?, want);
         }
-        assert!(rt; command(alloc, &[])?.is_none());
-        assert!(rt; command(alloc, &["convert", "a", "b", "--width", "5"])?.is_none());
         Ok(())
     }
 
