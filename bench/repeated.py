@@ -8,8 +8,9 @@ import sys
 import converted
 
 HEAD = struct.Struct("<4sIQII")
-# How far the addresses of one repetition are from those of the one before: more than a program has memory.
-APART = 2 ** 48
+# How far the addresses of one repetition are at least from those of the one before: as far as a large program's memory
+# goes, so that all of them lie about as close to one another as in a file of so many blocks.
+LEAST_APART = 2 ** 32
 
 
 def words(payload):
@@ -32,6 +33,15 @@ def moved(payload, places, by):
     return own.tobytes() + payload[len(own) * 8:]
 
 
+def distance(addresses, times):
+    """How far the addresses of one repetition are from those of the one before: the least power of two by which no two
+    blocks of different repetitions stand at one address."""
+    apart = LEAST_APART
+    while len({address + apart * n for address in addresses for n in range(times)}) < len(addresses) * times:
+        apart *= 2
+    return apart
+
+
 def write(path, name, structs):
     """Writes the blocks of a file so often that so many of structs stand in the new one."""
     sample = name.read_bytes()
@@ -41,14 +51,15 @@ def write(path, name, structs):
     blocks = list(converted.blocks(sample, form))
     nodes = [block for block in blocks if block.code != b"DNA1"]
     own = sum(block.index != 0 for block in nodes)
-    if own == 0 or structs > own * (2 ** 64 // APART):
-        sys.exit(f"{name} has too few blocks of structs")
+    if own == 0:
+        sys.exit(f"{name} has no blocks of structs")
     addresses = {block.address for block in nodes} - {0}
     named = [[place for place, word in enumerate(words(block.payload)) if word in addresses] for block in nodes]
     times = -(-structs // own)
+    apart = distance(addresses, times)
     with open(path, "wb", buffering=2 ** 20) as file:
         file.write(sample[:12])
-        for by in range(0, times * APART, APART):
+        for by in range(0, times * apart, apart):
             for block, places in zip(nodes, named):
                 payload = moved(block.payload, places, by)
                 address = (block.address + by) % 2 ** 64
