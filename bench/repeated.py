@@ -8,8 +8,7 @@ import sys
 import converted
 
 HEAD = struct.Struct("<4sIQII")
-# How far the addresses of one repetition are at least from those of the one before: as far as a large program's memory
-# goes, so that all of them lie about as close to one another as in a file of so many blocks.
+# How far the addresses of one repetition are at least from those of the one before: about what a program's memory takes.
 LEAST_APART = 2 ** 32
 
 
@@ -27,7 +26,7 @@ def moved(payload, places, by):
         return payload
     own = words(payload)
     for place in places:
-        own[place] = (own[place] + by) % 2 ** 64
+        own[place] += by
     if sys.byteorder == "big":
         own.byteswap()
     return own.tobytes() + payload[len(own) * 8:]
@@ -35,11 +34,13 @@ def moved(payload, places, by):
 
 def distance(addresses, times):
     """How far the addresses of one repetition are from those of the one before: the least power of two by which no two
-    blocks of different repetitions stand at one address."""
+    blocks of different repetitions stand at one address, and the last ones are still addresses."""
     apart = LEAST_APART
-    while len({address + apart * n for address in addresses for n in range(times)}) < len(addresses) * times:
+    while max(addresses) + apart * (times - 1) < 2 ** 64:
+        if len({address + apart * n for address in addresses for n in range(times)}) == len(addresses) * times:
+            return apart
         apart *= 2
-    return apart
+    sys.exit("the sample's addresses are too far from one another to stand so often in a file")
 
 
 def write(path, name, structs):
@@ -62,7 +63,7 @@ def write(path, name, structs):
         for by in range(0, times * apart, apart):
             for block, places in zip(nodes, named):
                 payload = moved(block.payload, places, by)
-                address = (block.address + by) % 2 ** 64
+                address = block.address + by
                 file.write(HEAD.pack(block.code, len(payload), address, block.index, block.count) + payload)
         for block in blocks:
             if block.code == b"DNA1":
