@@ -73,28 +73,35 @@ fn schema_of(alloc: Global, words: &[String]) -> Result<Option<Command>, NoMemor
 mod tests {
     use super::*;
 
-    // Whether words spell a conversion of a file to another.
-    fn convert(alloc: Global, words: &[&str], from: &str, to: &str) -> Result<bool, NoMemory> {
+    // Whether words spell a conversion of a file to another, where they spell a command.
+    fn convert(
+        alloc: Global,
+        words: &[&str],
+        from: &str,
+        to: &str,
+    ) -> Result<Option<bool>, NoMemory> {
         let mut owned = Vec::new(alloc);
         for word in words {
             owned.push(String::from_str(alloc, word)?)?;
         }
-        match command_of(alloc, &owned)? {
+        let spelled = command_of(alloc, &owned)?;
+        match &spelled {
             Some(Command::Convert { input, out, .. }) => {
-                Ok(input.as_str() == from && out.as_str() == to)
+                Ok(Some(input.as_str() == from && out.as_str() == to))
             }
-            _ => Ok(false),
+            Some(_) => Ok(Some(false)),
+            None => Ok(None),
         }
     }
 
     #[test]
     fn converts(rt: HostRuntime) -> Result<(), NoMemory> {
         for (words, want) in [
-            (["convert", "a", "b"].as_slice(), true),
-            (&["convert", "b", "a"], false),
-            (&["convert", "a", "b", "--width", "5"], false),
-            (&["schema", "a"], false),
-            (&[], false),
+            (["convert", "a", "b"].as_slice(), Some(true)),
+            (&["convert", "b", "a"], Some(false)),
+            (&["schema", "a"], Some(false)),
+            (&["convert", "a", "b", "--width", "5"], None),
+            (&[], None),
         ] {
             assert_eq!(rt; convert(rt.alloc(), words, "a", "b")?, want);
         }
