@@ -58,11 +58,6 @@ pub named_in_group : (ms : List Mark) (node group address : ℕ) (target : Optio
 named_in_group ms node group address target is told =
     is ∙ ap (λ g. target_of ms g address) (group_is (slice_get ms node) group told)
 
--- the address 0 names nothing
-pub null_names_none : (ms : List Mark) (node address : ℕ) → address ≡ 0 → None ≡ table_names ms node address
-unfolding target_of
-null_names_none ms node address is = rw is refl
-
 -- there are as many marks as nodes
 pub marks-long : (h : Header) (c : Catalogue) (nodes : List Head) → length (marks_of h c nodes) ≡ length nodes
 unfolding marks

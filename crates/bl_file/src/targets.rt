@@ -49,9 +49,6 @@ impl<'a> Targets for FileTargets<'a> {
     ghost null_names_nothing = { λ t. table_names-null t.table.now };
 
     fn target(&self, node: u32, address: u64) -> Option<u32> {
-        if address == 0 {
-            return None;
-        }
         self.table.resolve(self.table.group_of(node), address)
     }
 
