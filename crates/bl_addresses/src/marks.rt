@@ -2,7 +2,7 @@ ghost use Rattle.std.specs.Prelude.{◌≡◌, ◌<◌, length};
 ghost use Rattle.bl_addresses.specs.Marks.{mark_at, mark_of, marks_by, is_member, place_in, place_of, row_of};
 
 /// What an address is compared with in a node.
-#[derive(Clone, Copy, Debug)]
+#[derive(Clone, Copy)]
 pub struct Mark {
     pub address: u64,
     pub group: u32,

@@ -62,7 +62,7 @@ pub fn draft_of_nodes(
     Ok(draft_of(alloc, header, catalogue, entries, images))
 }
 
-// A draft without overrides; the one place where a draft is made.
+// A draft without overrides.
 fn draft_of(
     alloc: Global,
     header: Header,

@@ -1,4 +1,4 @@
--- What an element becomes that is copied by a plan, when a plan is that of a struct, and how plans are made of leaves.
+-- What an element becomes by a plan, when a plan is that of a struct, and how plans are made of leaves.
 use Rattle.std.specs.Prelude.{◌≡◌, ◌≤◌, ◌<◌, ℕ, zero, suc, ◌+◌, ◌-◌, ◌*◌, ◌==◌, ◌&&◌, if◌then◌else◌, All, List, [], ◌∷◌, length, flat_map, Option, Some, None, ⊤}
 use Rattle.bl_num.specs.declared.number.Order.{Order}
 use Rattle.bl_num.specs.declared.number.Width.{Width}
@@ -21,7 +21,7 @@ use Rattle.bl_writer.specs.Image.{is_pointer, with_leaves}
 abbrev pub no_plan : Plan
 no_plan = record { steps = [] }
 
--- ---- copying
+-- ---- rewriting
 
 -- some bytes with those of another list at the places of a run
 abbrev pub with_run : List ℕ → Run → List ℕ → List ℕ
@@ -52,15 +52,15 @@ with_steps names order src (x ∷ xs) dst = with_steps names order src xs (with_
 abbrev pub cleared : ℕ → ℕ → List ℕ → List ℕ
 cleared from to bytes = replaced_at from (zeros (to - from)) bytes
 
--- an element that is copied by a plan
+-- an element by a plan
 abbrev pub planned : Plan → Naming Target → Order → List ℕ → List ℕ
 planned p names order src = with_steps names order src p.steps (zeros (length src))
 
--- the first n elements of so many bytes, each copied by a plan
+-- the first n elements of so many bytes, each by a plan
 abbrev pub all_planned : Plan → Naming Target → Order → ℕ → ℕ → List ℕ → List ℕ
 all_planned p names order len n src = flat_map (λ e. planned p names order (part src (e * len) len)) (numbers_below n)
 
--- what a step copies stands in so many bytes, and its pointers are as long as numbers
+-- what a step covers stands in so many bytes, and its pointers are as long as numbers
 abbrev pub StepFits : ℕ → Step → Type 0
 StepFits n (kinds.Bytes x) = x.at + x.len ≤ n
 StepFits n (kinds.Pointers x) = (x.at + x.count * x.size ≤ n) × IsWholeLength x.size
@@ -94,7 +94,7 @@ pub record IsPlanOf (c : Catalogue) (w : Width) (s : ℕ) (p : Plan) : Type 0 wh
 
 -- ---- making plans
 
--- the step that copies a leaf
+-- the step for a leaf
 unfoldable pub step_of : Leaf → Step
 step_of x =
     if is_pointer x.kind

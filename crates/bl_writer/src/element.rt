@@ -83,7 +83,7 @@ fn clear(from: usize, to: usize, dst: &mut [u8])
     }
 }
 
-// Takes one step where the bytes stand that it is to copy: those of a run stay.
+// Takes one step: the bytes of a run stay, and pointers become addresses in the output.
 #[tactic(auto, unfolding(crate::specs::Plans::with_step))]
 fn rewrite_step<I: Images>(step: Step, order: Order, images: &I, dst: &mut [u8])
     requires fits { StepFits (length dst.old) step }

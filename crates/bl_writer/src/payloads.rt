@@ -54,7 +54,7 @@ fn write_elements<I: Images, S: Shelf, P: Payload>(
     ensures no_memory { result ≢ Err ShelfFault.NoMemory }
 {
     let len = output.layout.length(head.index) as usize;
-    // A head may claim 2^31 elements of no bytes, which would be as many turns for nothing.
+    // A head may claim almost 2^31 elements of no bytes, which would be as many turns for nothing.
     if len == 0 {
         return Ok(());
     }
