@@ -6,3 +6,4 @@ pub mod SpanLemmas
 pub mod SearchLemmas
 pub mod TargetLemmas
 pub mod SeenLemmas
+pub mod GroupLemmas

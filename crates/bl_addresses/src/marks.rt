@@ -10,7 +10,7 @@ pub struct Mark {
 }
 
 /// Among which nodes an address is looked up.
-#[derive(Clone, Copy, Debug)]
+#[derive(Clone, Copy)]
 pub enum Scope {
     /// Those of a group.
     Group,
@@ -19,7 +19,7 @@ pub enum Scope {
 }
 
 /// Where a node is found in a scope.
-#[derive(Clone, Copy, Debug)]
+#[derive(Clone, Copy)]
 pub struct Place {
     /// The group, or 0 in the file.
     pub part: u32,
@@ -27,7 +27,7 @@ pub struct Place {
 }
 
 /// A node where it is looked up: its part, its address and its number.
-#[derive(Clone, Copy, Debug)]
+#[derive(Clone, Copy)]
 pub struct Row {
     pub address: u64,
     pub part: u32,

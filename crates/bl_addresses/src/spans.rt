@@ -17,7 +17,7 @@ pub struct Span {
 
 /// Where sorted rows are guessed to stand by their addresses. The range of these is cut into
 /// buckets of one size, of which there are at most as many as rows.
-#[derive(Debug, Drop)]
+#[derive(Drop)]
 pub struct Buckets {
     // The address at which the first bucket begins.
     lowest: u64,

@@ -10,11 +10,11 @@ use bl_num::NoMemory;
 use std::alloc::Global;
 use std::marker::Model;
 
-/// Which nodes addresses name, group by group. Addresses are searched in sorted lists: a file
-/// chooses its addresses, and in a hashed table it could choose ones that collide. Where one stands
-/// is guessed, by its group or among the IDs by its value, and the guess is tested. A node takes 20
-/// bytes, an ID 20 more, and a group 4.
-#[derive(Debug, Drop)]
+/// Which nodes addresses name, group by group: Blender's `OldNewMap`, which has old pointers for
+/// keys. Addresses are searched in sorted lists: a file chooses its addresses, and in a hashed table
+/// it could choose ones that collide. Where one stands is guessed, by its group or among the IDs by
+/// its value, and the guess is tested. A node takes 20 bytes, an ID 20 more, and a group 4.
+#[derive(Drop)]
 pub struct Table {
     // The group of each node.
     groups: Vec<u32>,

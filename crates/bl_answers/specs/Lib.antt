@@ -1,3 +1,10 @@
-pub mod Printed
+pub mod Append
+pub mod Dump
+pub mod Fates
+pub mod Link
+pub mod ListIds
+pub mod Merges
 pub mod Query
-pub mod Refusals
+pub mod Resolve
+pub mod Schema
+pub mod Values

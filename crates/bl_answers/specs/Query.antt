@@ -1,12 +1,20 @@
 -- Paths to leaves, and the answer to a query: the values at the end of its path, read off the graph. This
 -- project's own.
-use Rattle.std.specs.Prelude.{ℕ, zero, suc, ◌+◌, Bool, true, false, not, ◌&&◌, ◌==◌, nat_lt, if◌then◌else◌, List, [], ◌∷◌, length, take, drop, map, get_or, Option, Some, None, Result, Ok, Err, unwrap_or, flat_map}
+use Rattle.std.specs.Prelude.{ℕ, ◌+◌, ◌&&◌, nat_lt, if◌then◌else◌, List, [], ◌∷◌, length, map, flat_map, Option, Some, None, option_map, unwrap_or, zero, suc, Bool, not, ◌==◌, take, drop, get_or, Result, Ok, Err}
 use Rattle.std.specs.List.{find, prefix_len, slice_split}
 use Rattle.std.specs.Str.{bytes_eq, byte}
 use Rattle.bl_num.specs.declared.number.Width.{Width}
 use Rattle.bl_format.specs.declared.catalogue.Catalogue.{Catalogue}
 use Rattle.bl_format.specs.declared.layout.Kind.{Kind}
 use Rattle.bl_format.specs.declared.layout.Kind.TheVariants as kinds
+use Rattle.bl_format.specs.Words.{numbers_below, first_place}
+use Rattle.bl_format.specs.Layout.{NamedLeaf, named_leaves, member_numbers, name_of, member_size, struct_number, no_leaf, inner_struct}
+use Rattle.bl_format.specs.Graph.{Target, Value, Points, Fields, Node, Struct, path_of, Path}
+use Rattle.bl_format.specs.Members.{is_word_byte, extents}
+use Rattle.bl_selection.specs.Fate.{is_char}
+use Rattle.bl_linking.specs.References.{Graph, node_in, node_is_id, nodes_where, full_name, text_from, path_eq}
+use Rattle.bl_commands.specs.declared.report.Value.{Value as Shown}
+use Rattle.bl_commands.specs.declared.report.Value.TheVariants.{Chars}
 use Rattle.bl_commands.specs.declared.path.Part.{Part}
 use Rattle.bl_commands.specs.declared.path.Place.{Place}
 use Rattle.bl_commands.specs.declared.path.PathFault.{PathFault}
@@ -15,21 +23,31 @@ use Rattle.bl_commands.specs.declared.path.PathFault.TheVariants as faults
 use Rattle.bl_commands.specs.declared.path.QueryFault.TheVariants as query_faults
 use Rattle.bl_commands.specs.declared.path.QueryFault.{QueryFault}
 use Rattle.bl_commands.specs.declared.path.QueryFault.TheVariants.{NoDatablock, Path as BadPath, NotPointer, NullPointer, NotStruct}
-use Rattle.bl_commands.specs.declared.report.Value.{Value as Shown}
-use Rattle.bl_commands.specs.declared.report.Value.TheVariants.{Chars}
-use Rattle.bl_format.specs.Words.{first_place, numbers_below}
-use Rattle.bl_format.specs.Members.{is_word_byte, extents}
-use Rattle.bl_format.specs.Layout.{NamedLeaf, named_leaves, no_leaf, member_numbers, member_size, name_of, inner_struct, struct_number}
-use Rattle.bl_format.specs.Graph.{Target, Value, Points, Opaque, Fields, Node, Struct, Path, path_of}
-use Rattle.bl_selection.specs.Fate.{is_char}
-use Rattle.bl_linking.specs.References.{Graph, node_in, node_is_id, nodes_where, full_name, path_eq, value_at_path, text_from}
-use Rattle.bl_commands.specs.Commands.{is_step}
 use Rattle.bl_commands.specs.declared.ending.Ending.{Ending}
 use Rattle.bl_commands.specs.declared.ending.Ending.TheVariants.{NoCommand, Absent, Device, Missing}
 use Rattle.bl_commands.specs.declared.ending.Ending.TheVariants as endings
 use Rattle.bl_commands.specs.declared.ending.Lack.TheVariants as lacks
 use Rattle.bl_commands.specs.Texts.{Text, line, value_text}
-use Rattle.bl_answers.specs.Printed.{shown_value}
+use Rattle.bl_commands.specs.Commands.{is_step}
+use Rattle.bl_answers.specs.Values.{value_at, shown_value}
+
+-- ---- steps that may have a fault
+
+-- what follows a first step, unless that has a fault
+infixl 10 ◌>>=◌
+abbrev pub ◌>>=◌ : {A B E : Type 0} → Result A E → (A → Result B E) → Result B E
+(Ok x) >>= f = f x
+(Err fault) >>= f = Err fault
+
+-- what there is, and else a fault
+abbrev pub or_fault : {A E : Type 0} → E → Option A → Result A E
+or_fault fault None = Err fault
+or_fault fault (Some x) = Ok x
+
+-- a step that only may have a fault
+abbrev pub unless_fault : {E : Type 0} → Option E → Result ℕ E
+unless_fault None = Ok 0
+unless_fault (Some fault) = Err fault
 
 -- ---- texts as paths
 
@@ -82,39 +100,30 @@ index_fault c s k p = by_index p.index
         if nat_lt i (name_of c s k).count then None else
         Some (OutOfRange p.at)
 
--- a path with one step more before it, where it has no fault
-abbrev pub way_with_step : List ℕ × ℕ → Result Path PathFault → Result Path PathFault
-way_with_step step (Ok path) = Ok (step ∷ path)
-way_with_step step (Err fault) = Err fault
+-- the member that a step names in struct s, where its index is right
+abbrev pub member_named : Catalogue → Width → ℕ → Part → Result ℕ PathFault
+member_named c w s p = do
+  k ← or_fault (NoMember p.at) (member_at_path c w s p.identifier)
+  _ ← unless_fault (index_fault c s k p)
+  Ok k
 
--- the members and elements that some steps name in struct s, or the first fault of a step; an array of
--- structs without an index means its element 0
+-- a step as a member and an element; an array without an index means its element 0
+abbrev pub step_of : Part → List ℕ × ℕ
+step_of p = (p.identifier, unwrap_or p.index 0)
+
+-- the members and elements that some steps name in struct s, or the first fault of a step: the last one names a leaf,
+-- and any other one a struct by value
 unfoldable pub way_in : Catalogue → Width → ℕ → List Part → Result Path PathFault
 way_in c w s [] = Ok []
-way_in c w s (p ∷ ps) = at_member (member_at_path c w s p.identifier) (λ t. way_in c w t ps)
-  where
-    last : List Part → Bool
-    last [] = true
-    last (q ∷ qs) = false
-
-    next_at : List Part → ℕ
-    next_at [] = 0
-    next_at (q ∷ qs) = q.at
-
-    step : List ℕ × ℕ
-    step = (p.identifier, unwrap_or p.index 0)
-
-    by_kind : Option ℕ → (ℕ → Result Path PathFault) → Result Path PathFault
-    by_kind None go = if last ps then Ok (step ∷ []) else Err (NoMember (next_at ps))
-    by_kind (Some t) go = if last ps then Err (NotLeaf p.at) else way_with_step step (go t)
-
-    by_index : Option PathFault → ℕ → (ℕ → Result Path PathFault) → Result Path PathFault
-    by_index (Some fault) k go = Err fault
-    by_index None k go = by_kind (inner_struct c s k) go
-
-    at_member : Option ℕ → (ℕ → Result Path PathFault) → Result Path PathFault
-    at_member None go = Err (NoMember p.at)
-    at_member (Some k) go = by_index (index_fault c s k p) k go
+way_in c w s (p ∷ []) = do
+  k ← member_named c w s p
+  _ ← unless_fault (option_map (λ t. NotLeaf p.at) (inner_struct c s k))
+  Ok (step_of p ∷ [])
+way_in c w s (p ∷ q ∷ ps) = do
+  k ← member_named c w s p
+  t ← or_fault (NoMember q.at) (inner_struct c s k)
+  steps ← way_in c w t (q ∷ ps)
+  Ok (step_of p ∷ steps)
 
 -- the index in the last step
 abbrev pub last_index : List Part → Option ℕ
@@ -130,17 +139,14 @@ way_to_first (step ∷ next ∷ steps) = step ∷ way_to_first (next ∷ steps)
 
 -- the leaf of struct s that some steps name, and the element that the last step gives, or the first fault
 unfoldable pub place_in : Catalogue → Width → ℕ → List Part → Result Place PathFault
-place_in c w s ps = by_way (way_in c w s ps)
+place_in c w s ps = do
+  way ← way_in c w s ps
+  Ok (record { leaf = leaf_of way; element = last_index ps })
   where
-    is_leaf_of : Path → NamedLeaf → Bool
-    is_leaf_of path x = path_eq (path_of x.way 0) (way_to_first path)
-
-    by_way : Result Path PathFault → Result Place PathFault
-    by_way (Err fault) = Err fault
-    by_way (Ok path) = Ok (record {
-      leaf = unwrap_or (first_place (is_leaf_of path) (named_leaves c w s)) 0;
-      element = last_index ps;
-    })
+    leaf_of : Path → ℕ
+    leaf_of way =
+        let is_it = λ (x : NamedLeaf). path_eq (path_of x.way 0) (way_to_first way) in
+        unwrap_or (first_place is_it (named_leaves c w s)) 0
 
 -- ---- queries
 
@@ -149,10 +155,6 @@ place_in c w s ps = by_way (way_in c w s ps)
 abbrev pub subject : Catalogue → Node → Option (ℕ × Fields)
 subject c (Struct code name group (fs ∷ es)) = Some (struct_number c name, fs)
 subject c x = None
-
--- the value of element k of a leaf, among those of a struct's element
-abbrev pub value_at : Fields → NamedLeaf → ℕ → Value Target
-value_at fs x k = unwrap_or (value_at_path fs (path_of x.way k)) (Opaque [])
 
 -- the values of a leaf: of one element, of all, or the text of a `char` array
 abbrev pub answer_at : Fields → NamedLeaf → Option ℕ → List Shown
@@ -167,42 +169,36 @@ followed_node arrow (kinds.Pointer depth t) (Points (Some m)) = Ok m
 followed_node arrow (kinds.Pointer depth t) v = Err (NullPointer arrow)
 followed_node arrow kind v = Err (NotPointer arrow)
 
+-- what a path gives, where its fault is one of the query
+abbrev pub of_path : {A : Type 0} → Result A PathFault → Result A QueryFault
+of_path (Ok x) = Ok x
+of_path (Err fault) = Err (BadPath fault)
+
+-- the leaf of struct s that a path with its place names, and the element that its last step gives
+abbrev pub leaf_named : Catalogue → Width → ℕ → ℕ × List ℕ → Result (NamedLeaf × Option ℕ) QueryFault
+leaf_named c w s path = do
+  parts ← of_path (parts_of path.0 path.1)
+  place ← of_path (place_in c w s parts)
+  Ok (get_or (named_leaves c w s) place.leaf no_leaf, place.element)
+
+-- the struct number and the values behind a pointer, which is a value of a leaf of a kind, or the fault of the arrow at
+-- a place
+abbrev pub behind_pointer : Catalogue → Graph → ℕ → Kind → Value Target → Result (ℕ × Fields) QueryFault
+behind_pointer c g arrow kind v = do
+  m ← followed_node arrow kind v
+  or_fault (NotStruct arrow) (subject c (node_in g m))
+
 -- the answer to the rest of a query's paths, each with its place, from the values of an element of struct s
 unfoldable pub answer_from : Catalogue → Width → Graph
     → ℕ → Fields → List (ℕ × List ℕ) → Result (List Shown) QueryFault
 answer_from c w g s fs [] = Ok []
-answer_from c w g s fs ((at, text) ∷ rest) = by_parts (parts_of at text) (λ t gs. answer_from c w g t gs rest)
-  where
-    Rest : Type 0
-    Rest = ℕ → Fields → Result (List Shown) QueryFault
-
-    is_last : List (ℕ × List ℕ) → Bool
-    is_last [] = true
-    is_last (p ∷ ps) = false
-
-    arrow : ℕ
-    arrow = at + length text
-
-    at_subject : Option (ℕ × Fields) → Rest → Result (List Shown) QueryFault
-    at_subject None go = Err (NotStruct arrow)
-    at_subject (Some (t, gs)) go = go t gs
-
-    by_target : Result ℕ QueryFault → Rest → Result (List Shown) QueryFault
-    by_target (Err fault) go = Err fault
-    by_target (Ok m) go = at_subject (subject c (node_in g m)) go
-
-    at_leaf : NamedLeaf → Option ℕ → Rest → Result (List Shown) QueryFault
-    at_leaf x element go =
-        if is_last rest then Ok (answer_at fs x element) else
-        by_target (followed_node arrow x.kind (value_at fs x (unwrap_or element 0))) go
-
-    by_place : Result Place PathFault → Rest → Result (List Shown) QueryFault
-    by_place (Err fault) go = Err (BadPath fault)
-    by_place (Ok place) go = at_leaf (get_or (named_leaves c w s) place.leaf no_leaf) place.element go
-
-    by_parts : Result (List Part) PathFault → Rest → Result (List Shown) QueryFault
-    by_parts (Err fault) go = Err (BadPath fault)
-    by_parts (Ok parts) go = by_place (place_in c w s parts) go
+answer_from c w g s fs (path ∷ []) = do
+  x ← leaf_named c w s path
+  Ok (answer_at fs x.0 x.1)
+answer_from c w g s fs (path ∷ next ∷ rest) = do
+  x ← leaf_named c w s path
+  inner ← behind_pointer c g (path.0 + length path.1) x.0.kind (value_at fs x.0 (unwrap_or x.1 0))
+  answer_from c w g inner.0 inner.1 (next ∷ rest)
 
 -- the paths of a query with their places; an arrow `->` stands between each two
 abbrev pub query_steps : List ℕ → List (ℕ × List ℕ)
@@ -214,18 +210,13 @@ query_steps text = map without_arrow (pieces_with_places 1 0 (slice_split (λ b.
 
 -- the answer to a query on the first ID of a full name, or its first fault
 unfoldable pub query_answer : Catalogue → Width → Graph → List ℕ → List ℕ → Result (List Shown) QueryFault
-query_answer c w g name text = by_node (find has_name (nodes_where g (node_is_id c)))
+query_answer c w g name text = do
+  n ← or_fault NoDatablock (find has_name (nodes_where g (node_is_id c)))
+  x ← or_fault NoDatablock (subject c (node_in g n))
+  answer_from c w g x.0 x.1 (query_steps text)
   where
     has_name : ℕ → Bool
     has_name n = bytes_eq (full_name (node_in g n)) name
-
-    at_subject : Option (ℕ × Fields) → Result (List Shown) QueryFault
-    at_subject None = Err NoDatablock
-    at_subject (Some (s, fs)) = answer_from c w g s fs (query_steps text)
-
-    by_node : Option ℕ → Result (List Shown) QueryFault
-    by_node None = Err NoDatablock
-    by_node (Some n) = at_subject (subject c (node_in g n))
 
 -- ---- what is printed
 

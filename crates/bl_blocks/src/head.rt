@@ -1,6 +1,7 @@
 ghost use Rattle.std.specs.Prelude.{◌≡◌, ◌≢◌, ◌≤◌, ◌<◌, ◌+◌, ◌-◌, ◌^◌, ◌++◌, ℕ, List, false, min, length, take, codes, Ok};
 ghost use Rattle.std.specs.Str.{bytes_eq};
 ghost use Rattle.bl_num.specs.Numbers.{number_of, pointer_bytes};
+ghost use Rattle.bl_format.specs.Words.{zeros};
 ghost use Rattle.bl_format.specs.Blocks.{head_size, head_in, code_meant, code_written, checked_head, step_in, head_written, is_negative};
 
 use bl_format::{BlockFault, Head, Header, Step};
@@ -16,14 +17,19 @@ const LEN_AT: usize = CODE_SIZE;
 
 const ADDRESS_AT: usize = LEN_AT + NUMBER_SIZE;
 
-const END: [u8; 4] = *b"ENDB";
+/// The bytes of the longest head.
+pub const LONGEST_HEAD: usize = 24;
+
+/// The code that ends a file. No block has it.
+pub const END: [u8; 4] = *b"ENDB";
 
 // The least number of 32 bits that is negative.
 const SIGN: u32 = 0x8000_0000;
 
-/// The bytes of a block's head.
+/// The bytes of a block's head, Blender's `BHead`.
 pub fn head_size(header: &Header) -> usize
-    ensures { result ≡ head_size header.now }
+    ensures size { result ≡ head_size header.now }
+    ensures longest { result ≤ LONGEST_HEAD }
 {
     ADDRESS_AT + pointer_size(header.width) + 2 * NUMBER_SIZE
 }
@@ -48,9 +54,9 @@ pub fn next_block(header: &Header, window: &[u8], at: u64, size: u64) -> Result<
     checked_head(header, head_in(header, window, at), size)
 }
 
-/// Writes a block's head. Its code is one that four bytes mean, so not two zeros and then two other
-/// bytes; a code of two letters is written with its zeros first in a file whose numbers have their
-/// highest byte first.
+/// Writes a block's head, Blender's `BHead`. Its code is one that four bytes mean, so not two zeros
+/// and then two other bytes; a code of two letters is written with its zeros first in a file whose
+/// numbers have their highest byte first.
 pub fn write_head(header: &Header, head: &Head, dst: &mut [u8])
     requires room { length dst.old ≡ head_size header.now }
     requires code { code_meant head.now.code ≡ head.now.code }
@@ -75,6 +81,16 @@ pub fn write_head(header: &Header, head: &Head, dst: &mut [u8])
     write_whole(header.order, head.address, address);
     write_whole(header.order, u64::from(head.index), index);
     write_whole(header.order, u64::from(head.count), count);
+}
+
+/// Writes the end of a file: its code, and zeros behind it.
+pub fn write_end(dst: &mut [u8])
+    requires { 4 ≤ length dst.old }
+    ensures { dst.new ≡ codes "ENDB" ++ zeros (length dst.old - 4) }
+{
+    let (code, rest) = dst.split_at_mut(CODE_SIZE);
+    code.copy_from_slice(&END);
+    rest.fill(0);
 }
 
 fn pointer_size(width: Width) -> usize
@@ -172,39 +188,5 @@ fn code_written(order: Order, code: [u8; 4]) -> [u8; 4]
     match order {
         Order::Big if is_two_letter => [0, 0, code[0], code[1]],
         _ => code,
-    }
-}
-
-#[cfg(test)]
-mod tests {
-    use super::*;
-
-    const HEADER: Header = Header {
-        width: Width::Eight,
-        order: Order::Big,
-        version: 279,
-    };
-
-    #[test]
-    fn writes_and_reads_heads(rt: HostRuntime) {
-        let head = Head {
-            code: *b"OB\0\0",
-            len: 3,
-            address: 0x1234_5678,
-            index: 5,
-            count: 1,
-            at: 40,
-        };
-        let mut bytes = [0; 24];
-        write_head(&HEADER, &head, &mut bytes);
-        let want = b"\0\0OB\0\0\0\x03\0\0\0\0\x12\x34\x56\x78\0\0\0\x05\0\0\0\x01";
-        assert_eq!(rt; bytes, *want);
-        assert_eq!(rt; head_size(&HEADER), bytes.len());
-        assert_eq!(rt; next_block(&HEADER, &bytes, 40, 67), Ok(Step::Block(head)));
-        assert_eq!(rt;
-            next_block(&HEADER, &bytes, 40, 66),
-            Err(BlockFault::Truncated(40))
-        );
-        assert_eq!(rt; next_block(&HEADER, b"ENDB", 40, 44), Ok(Step::End));
     }
 }

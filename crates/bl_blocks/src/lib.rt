@@ -6,4 +6,4 @@ mod head;
 
 pub use bl_format::{BlockFault, Head, Step};
 pub use blocks::{MAX_BLOCKS, all_blocks};
-pub use head::{head_size, next_block, write_head};
+pub use head::{END, LONGEST_HEAD, head_size, next_block, write_end, write_head};

@@ -1,9 +1,1 @@
-pub mod Opens
-pub mod Names
-pub mod Outcomes
-pub mod OwnDrafts
-pub mod Gathers
-pub mod Refusals
-pub mod Acceptance
-pub mod Runs
-pub mod Built
+mod SecondGroup

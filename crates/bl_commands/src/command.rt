@@ -1,5 +1,14 @@
-use crate::Word;
+use crate::{Keeper, Word};
 use bl_num::{Items, Order, Width};
+
+/// Which form of header and heads (`BHead`) a file is to have.
+#[derive(Clone, Copy, Debug, PartialEq, Eq)]
+pub enum HeadForm {
+    /// That of Blender up to 4.5.
+    Classic,
+    /// That of Blender from 5.0 on, with long lengths and counts.
+    Wide,
+}
 
 /// What the options of `convert` give; each is there at most once.
 #[derive(Debug, Drop)]
@@ -10,6 +19,10 @@ pub struct ConvertOptions {
     pub width: Option<Width>,
     /// The order of the output's bytes.
     pub order: Option<Order>,
+    /// The form of the output's heads.
+    pub head: Option<HeadForm>,
+    /// The file that says which structs and members are renamed.
+    pub renames: Option<Word>,
 }
 
 /// One command with what its words give.
@@ -59,6 +72,7 @@ pub enum Command {
     Fates {
         input: Word,
         cat: Word,
+        renames: Option<Word>,
     },
     /// Prints the nodes of a file.
     List {
@@ -74,5 +88,29 @@ pub enum Command {
     Dump {
         input: Word,
         kind: u8,
+    },
+    /// Sets single values of a file by a script, and prints a script that undoes it.
+    Edit {
+        input: Word,
+        script: Word,
+        out: Word,
+    },
+    /// Keeps the datablocks that some keepers reach.
+    Purge {
+        input: Word,
+        out: Word,
+        keepers: Items<Keeper>,
+    },
+    /// Prints the datablocks that a purge would drop.
+    Unused {
+        input: Word,
+        keepers: Items<Keeper>,
+    },
+    /// Moves datablocks into a library, and links them from there.
+    Split {
+        input: Word,
+        out: Word,
+        lib: Word,
+        names: Items<Word>,
     },
 }

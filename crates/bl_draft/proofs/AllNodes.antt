@@ -73,8 +73,8 @@ pub of_all-own : (o : Outline) (b : List ℕ) (d : Draft) → IsOwnDraft o d →
 of_all-own o b d own all = λ i. record {
   header = own.header i;
   catalogue = own.catalogue i;
-  entries = all.0 i;
-  images = all.1 i;
+  entries = all.entries i;
+  images = all.images i;
   overrides = own.no_overrides i;
 }
 
@@ -93,7 +93,7 @@ heads-all nodes =
 -- so the nodes of an outline are its heads
 pub nodes-known : (o : Outline) (d : Draft) (nodes : List Head) → IsOfAll (length o.nodes) d → nodes ≡ o.nodes
     → nodes ≡ entry_heads o.nodes d.entries
-nodes-known o d nodes all is = is ∙ sym (ap (entry_heads o.nodes) all.0 ∙ heads-all o.nodes)
+nodes-known o d nodes all is = is ∙ sym (ap (entry_heads o.nodes) all.entries ∙ heads-all o.nodes)
 
 -- what addresses name from the nodes of a file
 abbrev names_in : File → Namings
@@ -140,7 +140,7 @@ pub length-nodes : (o : Outline) (d : Draft) → IsOfAll (length o.nodes) d → 
 length-nodes o d all =
     let n = length o.nodes in
     let long : length (all_entries n) ≡ n = length-map (numbers_below n) (entries.Source 0) ∙ length-numbers_below n in
-    sym long ∙ sym (ap (λ (es : List Entry). length es) all.0)
+    sym long ∙ sym (ap (λ (es : List Entry). length es) all.entries)
 
 -- the group that a table of a file's nodes has for a node
 group_told : (f : File) (k : ℕ) → k < length f.nodes → mark_group (slice_get (marks f) k) ≡ group_of (file_codes f) k
@@ -158,8 +158,3 @@ names-by_table o d table sound own all same e lt =
     ∙ ap (target_of (marks f)) (group_told f e below)
     ∙ own_names-all f (sound-HaveOwnIndex o [] sound) e below
     ∙ ap (λ (x : Draft). own_names f x e) (sym (of_all-own o [] d own all))
-
--- so many nodes are those of the outline
-pub of_all-nodes : (o : Outline) (d : Draft) (nodes : List Head) → nodes ≡ o.nodes → IsOfAll (length nodes) d
-    → IsOfAll (length o.nodes) d
-of_all-nodes o d nodes same all = subst (λ (xs : List Head). IsOfAll (length xs) d) same all

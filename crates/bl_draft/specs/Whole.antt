@@ -14,5 +14,6 @@ abbrev pub all_images : ℕ → List ℕ
 all_images n = map (λ k. suc k) (numbers_below n)
 
 -- a draft has all of n nodes of the only source, each as its own image
-abbrev pub IsOfAll : ℕ → Draft → Type 0
-IsOfAll n d = (d.entries ≡ all_entries n) × (d.images ≡ all_images n ∷ [])
+pub record IsOfAll (n : ℕ) (d : Draft) : Type 0 where
+  pub entries : d.entries ≡ all_entries n
+  pub images : d.images ≡ all_images n ∷ []

@@ -1,10 +1,9 @@
 // What is taken of each entry of a draft of one file's nodes.
-ghost use Rattle.std.specs.Prelude.{◌≡◌, ◌<◌, ◌^◌, All, IfOk, false, get_or, length, map, if◌then◌else◌, suc};
-ghost use Rattle.bl_format.specs.Nodes.{is_data};
+ghost use Rattle.std.specs.Prelude.{◌≡◌, ◌<◌, ◌^◌, All, IfOk, false, get_or, length, map};
 ghost use Rattle.bl_draft.specs.Own.{entry_head, entry_heads, entry_node};
 ghost use Rattle.bl_draft.specs.Entries.{IsNodeBelow, source_group, groups_among};
 
-use bl_addresses::Table;
+use bl_addresses::{Table, groups_of};
 use bl_format::Head;
 use bl_num::NoMemory;
 use bl_selection::Entry;
@@ -67,25 +66,8 @@ pub fn output_groups(alloc: Global, nodes: &[Head], entries: &[Entry]) -> Result
     ensures { IfOk result (λ groups.
         groups.items ≡ groups_among (entry_heads nodes.now entries.now)) }
 {
-    let mut groups = Vec::with_capacity(alloc, entries.len())?;
-    let mut heads = 0;
-    for entry in entries {
-        heads = heads_after(head_of(nodes, entry), heads);
-        groups.push(heads)?;
-    }
-    Ok(groups)
-}
-
-// How many entries up to one head a group, by how many before it do.
-fn heads_after(head: Head, before: u32) -> u32
-    requires { suc before < 2 ^ 32 }
-    ensures { result ≡ (if is_data head.code then before else suc before) }
-{
-    if head.code == *b"DATA" {
-        before
-    } else {
-        before + 1
-    }
+    let heads = heads_by(alloc, nodes, entries)?;
+    groups_of(alloc, &heads)
 }
 
 /// For each entry whether its node is an ID, by whether each node is.

@@ -14,6 +14,3 @@ pub use heads::heads_of;
 pub use kinds::kinds_of_entries;
 pub use targets::{EntryTargets, targets_of};
 pub use whole::{is_of_all, whole_draft};
-
-#[cfg(test)]
-mod tests;

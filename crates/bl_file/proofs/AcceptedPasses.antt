@@ -1,14 +1,12 @@
 -- A file that is accepted, and within the limits, passes all checks of its opening; and one that passes them is within
 -- the limit on blocks.
-use Rattle.std.proofs.Common.{◌≡◌, ◌≤◌, ◌<◌, ◌+◌, ℕ, Bool, true, false, cond, List, [], ◌∷◌, length, Option, Some, None, Result, Ok, Err, refl, ap, ◌∙◌, subst, arith}
+use Rattle.std.proofs.Common.{◌≡◌, ◌≤◌, ◌<◌, ◌+◌, ℕ, Bool, true, false, cond, List, [], ◌∷◌, length, Option, Some, None, Ok, ap, ◌∙◌, arith}
 use Rattle.std.specs.Prelude.{option_map, nat_lt}
-use Rattle.std.specs.Result.{result_err, result_unwrap_or}
-use Rattle.std.proofs.lemmas.Bool.{le-ltb}
-use Rattle.bl_format.specs.declared.file.Head.{Head}
+use Rattle.std.specs.Result.{result_err}
 use Rattle.bl_format.specs.Words.{find_map}
 use Rattle.bl_format.specs.Limits.{most_blocks, most_input_bytes}
 use Rattle.bl_format.specs.Blocks.{header_of, blocks_of}
-use Rattle.bl_format.specs.Nodes.{File, is_catalogue, catalogues_in, nodes_in, node_fault, Accepted}
+use Rattle.bl_format.specs.Nodes.{File, catalogues_in, nodes_in, node_fault, Accepted}
 use Rattle.bl_format.proofs.BlocksOf.{blocks_of_few}
 use Rattle.bl_file.specs.declared.fault.OpenFault.{OpenFault}
 use Rattle.bl_file.specs.declared.fault.OpenFault.TheVariants.{TooLarge, Head as InHead, Block as InBlock, Sdna}

@@ -1,25 +1,21 @@
 -- How what is read of some bytes decides their checks.
 use Rattle.std.proofs.Common.{◌≡◌, ◌≤◌, ◌<◌, ◌+◌, ℕ, Bool, true, false, List, [], ◌∷◌, length, Option, Some, None, Result, Ok, Err, refl, sym, ap, subst, ◌∙◌, arith}
-use Rattle.std.specs.Prelude.{option_map, nat_lt}
+use Rattle.std.specs.Prelude.{option_map}
 use Rattle.std.specs.Result.{result_err, result_unwrap_or}
 use Rattle.std.proofs.lemmas.Bool.{le-ltb}
 use Rattle.bl_format.specs.declared.file.Header.{Header}
 use Rattle.bl_format.specs.declared.file.Head.{Head}
-use Rattle.bl_format.specs.declared.file.HeadFault.{HeadFault}
-use Rattle.bl_format.specs.declared.file.BlockFault.{BlockFault}
 use Rattle.bl_format.specs.declared.catalogue.Catalogue.{Catalogue}
-use Rattle.bl_format.specs.declared.catalogue.SdnaFault.{SdnaFault}
-use Rattle.bl_format.specs.declared.layout.LayoutFault.{LayoutFault}
 use Rattle.bl_format.specs.Limits.{most_blocks, most_input_bytes}
 use Rattle.bl_format.specs.Words.{find_map}
-use Rattle.bl_format.specs.Blocks.{header_of, blocks_of, Reads}
+use Rattle.bl_format.specs.Blocks.{header_of, blocks_of}
 use Rattle.bl_format.specs.Schema.{catalogue_of}
 use Rattle.bl_format.specs.Layout.{layout_fault}
-use Rattle.bl_format.specs.Nodes.{File, NodeFault, payload, is_catalogue, catalogues_in, nodes_in, node_fault, ReadsCatalogue, Accepted}
+use Rattle.bl_format.specs.Nodes.{File, payload, is_catalogue, catalogues_in, nodes_in, node_fault, Accepted}
 use Rattle.bl_format.proofs.BlocksOf.{blocks_of_reading, reading_of_blocks}
 use Rattle.bl_file.specs.declared.fault.OpenFault.{OpenFault}
-use Rattle.bl_file.specs.declared.fault.OpenFault.TheVariants.{TooLarge, Head as InHead, Block as InBlock, Sdna}
-use Rattle.bl_file.specs.Opening.{no_header, no_catalogue, header_in, blocks_in, first_payload, catalogue_read, catalogue_in, file_in, catalogue_fault, named_fault, fault_of_node, first_of, format_checks, format_fault, open_fault}
+use Rattle.bl_file.specs.declared.fault.OpenFault.TheVariants.{Head as InHead, Block as InBlock, Sdna}
+use Rattle.bl_file.specs.Opening.{no_header, no_catalogue, header_in, blocks_in, first_payload, catalogue_read, catalogue_in, file_in, catalogue_fault, named_fault, fault_of_node, first_of, format_fault, open_fault}
 use Rattle.bl_file.specs.Outlines.{file_with}
 use Rattle.bl_file.specs.Steps.{AreBlocksOf, IsCatalogueOf, IsFileOf}
 

@@ -1,7 +1,7 @@
 -- Faults that checks give.
-use Rattle.std.proofs.Common.{◌≡◌, ◌≢◌, ◌⊎◌, ◌≤◌, ◌<◌, ◌^◌, ℕ, inl, inr, List, length, Option, Some, None, Result, Ok, Err, refl, sym, ap, subst, ◌∙◌, arith, get_or, Fits, w8}
+use Rattle.std.proofs.Common.{◌≡◌, ◌≢◌, ◌⊎◌, ◌<◌, ◌^◌, ℕ, inl, inr, List, length, Option, Some, Ok, refl, arith, get_or, Fits, w8}
 use Rattle.std.proofs.lemmas.List.{get_or_default}
-use Rattle.std.specs.Prelude.{All, option_map, IfErr}
+use Rattle.std.specs.Prelude.{All, option_map}
 use Rattle.bl_num.specs.declared.number.Order.{Order}
 use Rattle.bl_num.specs.declared.number.Width.{Width}
 use Rattle.bl_format.specs.declared.catalogue.Catalogue.{Catalogue}
@@ -15,7 +15,6 @@ use Rattle.bl_file.specs.declared.fault.OpenFault.{OpenFault}
 use Rattle.bl_file.specs.declared.fault.OpenFault.TheVariants as faults
 use Rattle.bl_file.specs.Opening.{named_fault}
 use Rattle.bl_file.specs.Held.{IsHeldAnd}
-use Rattle.bl_file.specs.Outlines.{BlamesRisen, HasOpenCause}
 use Rattle.bl_file.specs.Reading.{IsFaultOf}
 use Rattle.bl_file.specs.Steps.{IsGiven, NoFaultIn}
 use Rattle.bl_file.proofs.HeldLemmas.{IsHeldAnd-weaker, IsFaultOf-both}
@@ -65,57 +64,3 @@ given_why told name Such Why given (faults.ShortBlock at) held is so = IsHeldAnd
 -- a fault that the bytes don't give
 pub no_why : (told : Option Told) (name : List ℕ) (Such : List ℕ → Type 0) (Why : OpenFault → List ℕ → Type 0) (fault : OpenFault) → IsHeldAnd told name Such → IsFaultOf told name NoFaultIn fault → IsFaultOf told name Why fault
 no_why told name Such Why fault held is = IsFaultOf-both told name Such NoFaultIn Why fault held is (λ b such none. absurd none)
-
--- it blames no count
-pub given_blames : (given : Option OpenFault) (fault : OpenFault) → IsGiven given fault → (faults faults' misses misses' : ℕ) → BlamesRisen fault faults faults' misses misses'
-given_blames given faults.NoMemory is m m' n n' = tt
-given_blames given faults.Absent is m m' n n' = absurd is
-given_blames given faults.Device is m m' n n' = absurd is
-given_blames given (faults.TooLarge sum) is m m' n n' = tt
-given_blames given (faults.Head fault) is m m' n n' = tt
-given_blames given (faults.Block fault) is m m' n n' = tt
-given_blames given faults.NoCatalogue is m m' n n' = tt
-given_blames given (faults.TwoCatalogues at) is m m' n n' = tt
-given_blames given (faults.Sdna fault) is m m' n n' = tt
-given_blames given (faults.Layout fault owner member) is m m' n n' = tt
-given_blames given (faults.BadStruct at) is m m' n n' = tt
-given_blames given (faults.ShortBlock at) is m m' n n' = tt
-
--- a given fault at the end of what has its cause
-pub given_cause : {T X : Type 0} (m m' n n' : ℕ) (r : Result X OpenFault) (given : Option OpenFault) (fault : OpenFault) → HasOpenCause m m' n n' r → IsGiven given fault → HasOpenCause {T = T} m m' n n' (Err fault)
-given_cause m m' n n' r given fault cause is = record {
-  faults_grow = cause.faults_grow;
-  misses_grow = cause.misses_grow;
-  blamed = given_blames given fault is m m' n n';
-}
-
-blamed_before : (fault : OpenFault) (m m' m'' n n' n'' : ℕ) → m ≤ m' → n ≤ n' → BlamesRisen fault m' m'' n' n'' → BlamesRisen fault m m'' n n''
-blamed_before faults.NoMemory m m' m'' n n' n'' f g is = tt
-blamed_before faults.Absent m m' m'' n n' n'' f g is = omega (arith, g, is)
-blamed_before faults.Device m m' m'' n n' n'' f g is = omega (arith, f, is)
-blamed_before (faults.TooLarge sum) m m' m'' n n' n'' f g is = tt
-blamed_before (faults.Head fault) m m' m'' n n' n'' f g is = tt
-blamed_before (faults.Block fault) m m' m'' n n' n'' f g is = tt
-blamed_before faults.NoCatalogue m m' m'' n n' n'' f g is = tt
-blamed_before (faults.TwoCatalogues at) m m' m'' n n' n'' f g is = tt
-blamed_before (faults.Sdna fault) m m' m'' n n' n'' f g is = tt
-blamed_before (faults.Layout fault owner member) m m' m'' n n' n'' f g is = tt
-blamed_before (faults.BadStruct at) m m' m'' n n' n'' f g is = tt
-blamed_before (faults.ShortBlock at) m m' m'' n n' n'' f g is = tt
-
-blamed_then : {T : Type 0} (m m' m'' n n' n'' : ℕ) (r : Result T OpenFault) → m ≤ m' → n ≤ n' → IfErr r (λ fault. BlamesRisen fault m' m'' n' n'') → IfErr r (λ fault. BlamesRisen fault m m'' n n'')
-blamed_then m m' m'' n n' n'' (Ok x) f g is = tt
-blamed_then m m' m'' n n' n'' (Err fault) f g is = blamed_before fault m m' m'' n n' n'' f g is
-
--- of two calls one after the other, the second decides
-pub cause_then : {X T : Type 0} (m m' m'' n n' n'' : ℕ) (r : Result X OpenFault) (s : Result T OpenFault) → HasOpenCause m m' n n' r → HasOpenCause m' m'' n' n'' s → HasOpenCause m m'' n n'' s
-cause_then m m' m'' n n' n'' r s first second =
-    let f = first.faults_grow in
-    let g = first.misses_grow in
-    let f' = second.faults_grow in
-    let g' = second.misses_grow in
-    record {
-      faults_grow = omega (arith, f, f');
-      misses_grow = omega (arith, g, g');
-      blamed = blamed_then m m' m'' n n' n'' s f g second.blamed;
-    }

@@ -1,6 +1,6 @@
 -- The kinds of nodes by the views of the raw ones, and that these are the kinds by all views.
-use Rattle.std.proofs.Common.{◌≡◌, ◌<◌, ◌≤◌, inl, inr, ℕ, zero, suc, ◌+◌, Bool, true, false, cond, not, List, [], ◌∷◌, ◌++◌, length, get_or, take, Option, Some, None, refl, sym, ap, ◌∙◌, arith, eqb-true, append_assoc, subst}
-use Rattle.std.specs.Prelude.{All, ◌==◌, nat_le, map, filter, slice_get}
+use Rattle.std.proofs.Common.{◌≡◌, ◌<◌, ◌≤◌, ℕ, ◌+◌, Bool, true, false, cond, List, [], ◌∷◌, ◌++◌, length, get_or, take, refl, sym, ap, ◌∙◌, arith, eqb-true, append_assoc, subst}
+use Rattle.std.specs.Prelude.{◌==◌, nat_le, map, filter}
 use Rattle.std.specs.List.{enumerate_from}
 use Rattle.std.proofs.lemmas.List.{take_more, take_all, map_push, length-map, length-take-le, length-append}
 use Rattle.std.proofs.lemmas.List.FromFn.{length-enumerate_from}

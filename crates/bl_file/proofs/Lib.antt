@@ -1,5 +1,6 @@
 pub mod AcceptedPasses
 pub mod Checks
+pub mod CallLemmas
 pub mod Given
 pub mod GroupLemmas
 pub mod HeldLemmas

@@ -1,6 +1,6 @@
 -- How a shelf's answers and the checks of the bytes decide whether a file is opened.
-use Rattle.std.proofs.Common.{◌≡◌, ◌≤◌, ◌<◌, ◌+◌, ℕ, List, length, Option, Some, None, option_map, Result, Ok, Err, refl, sym, ap, subst, ◌∙◌, arith}
-use Rattle.std.specs.Prelude.{IfSome, IsSomeAnd, IsErrOf, nat_lt}
+use Rattle.std.proofs.Common.{◌≡◌, ◌≤◌, ◌<◌, ◌+◌, ℕ, List, length, Option, Some, None, option_map, Err, refl, sym, subst, ◌∙◌, arith}
+use Rattle.std.specs.Prelude.{IfSome, IsSomeAnd, IsErrOf}
 use Rattle.std.proofs.lemmas.Bool.{lt-ltb}
 use Rattle.bl_format.specs.Limits.{most_input_bytes}
 use Rattle.bl_shelf.specs.declared.shelf.ShelfFault.{ShelfFault}
@@ -14,7 +14,6 @@ use Rattle.bl_file.specs.Opening.{format_fault, open_fault}
 use Rattle.bl_file.specs.Outlines.{IsFirst}
 use Rattle.bl_file.specs.Reading.{fault_of_shelf, IsFaultOf}
 use Rattle.bl_file.specs.Steps.{IsFormatFault}
-use Rattle.bl_file.proofs.HeldLemmas.{IsHeldAnd-both, IsSizeOf-IsHeldAnd}
 use Rattle.bl_file.proofs.Checks.{fits_checked}
 
 -- what the file under a name is checked for

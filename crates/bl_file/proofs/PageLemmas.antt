@@ -121,8 +121,3 @@ pub part_more : (told told' : Option Told) (name name' : List ℕ) (at n m : ℕ
     → AreBytesAt told' name' (at + n) (take m y) → AreBytesAt told name at (take (n + m) (x' ++ y))
 part_more told told' name name' at n m x x' y same-told same-name front within done rest =
     rw front (next_part told name at n m x y within done (rw (sym same-told) (rw (sym same-name) rest)))
-
--- a page of a shelf and a file that have stayed
-pub page_more : (told told' : Option Told) (name name' : List ℕ) (size size' page_at filled : ℕ) (page : List ℕ) → told' ≡ told → name' ≡ name → size' ≡ size
-    → IsHeldAnd told' name' (HavePage size page_at filled page) → IsHeldAnd told name (HavePage size' page_at filled page)
-page_more told told' name name' size size' page_at filled page same-told same-name same held = rw (sym same-told) (rw (sym same-name) (rw same held))

@@ -1,25 +1,22 @@
 -- Each fault that the checks of a file give has its cause in the file's bytes.
-use Rattle.std.proofs.Common.{◌≡◌, ◌⊎◌, ◌+◌, ◌<◌, ℕ, Bool, true, false, cond, List, [], ◌∷◌, length, Option, Some, None, Result, Ok, Err, refl, sym, ap, subst, ◌∙◌, inl, inr}
+use Rattle.std.proofs.Common.{◌≡◌, ◌⊎◌, ◌+◌, ◌<◌, ◌≤◌, ℕ, Bool, true, false, cond, List, [], ◌∷◌, length, Option, Some, None, Result, Ok, Err, refl, sym, ap, subst, ◌∙◌, inl, inr}
 use Rattle.std.specs.Prelude.{nat_lt, option_map}
-use Rattle.std.specs.Result.{result_err, result_unwrap_or}
+use Rattle.std.specs.Result.{result_err}
 use Rattle.std.proofs.lemmas.Bool.{ltb-true}
 use Rattle.bl_format.specs.declared.file.Header.{Header}
 use Rattle.bl_format.specs.declared.file.Head.{Head}
-use Rattle.bl_format.specs.declared.file.HeadFault.{HeadFault}
-use Rattle.bl_format.specs.declared.file.BlockFault.{BlockFault}
 use Rattle.bl_format.specs.declared.catalogue.Catalogue.{Catalogue}
-use Rattle.bl_format.specs.declared.catalogue.SdnaFault.{SdnaFault}
 use Rattle.bl_format.specs.declared.layout.LayoutFault.{LayoutFault}
 use Rattle.bl_format.specs.Words.{find_map}
-use Rattle.bl_format.specs.Limits.{most_input_bytes}
+use Rattle.bl_format.specs.Limits.{most_blocks, most_input_bytes}
 use Rattle.bl_format.specs.Blocks.{header_of, blocks_of, Reads}
 use Rattle.bl_format.specs.Schema.{catalogue_of}
 use Rattle.bl_format.specs.Layout.{layout_fault}
 use Rattle.bl_format.specs.Nodes.{NodeFault, BadStruct as NoStruct, ShortBlock as TooShort, payload, catalogues_in, nodes_in, node_fault, ReadsCatalogue}
-use Rattle.bl_format.proofs.BlocksOf.{reading_of_blocks, blocks_of_cause}
+use Rattle.bl_format.proofs.BlocksOf.{reading_of_blocks, blocks_of_few, blocks_of_cause}
 use Rattle.bl_file.specs.declared.fault.OpenFault.{OpenFault}
 use Rattle.bl_file.specs.declared.fault.OpenFault.TheVariants as faults
-use Rattle.bl_file.specs.Opening.{no_header, no_catalogue, header_in, blocks_in, first_payload, catalogue_read, catalogue_in, catalogue_fault, named_fault, fault_of_node, first_of, format_checks, format_fault, open_fault}
+use Rattle.bl_file.specs.Opening.{no_header, no_catalogue, header_in, blocks_in, first_payload, catalogue_read, catalogue_in, catalogue_fault, named_fault, fault_of_node, first_of, format_fault, open_fault}
 use Rattle.bl_file.specs.Refusals.{HasOpenFault}
 use Rattle.bl_file.proofs.Checks.{no_fault, value_of, one_catalogue}
 
@@ -69,47 +66,47 @@ module _ (used : ℕ) (b : List ℕ) (e : OpenFault) where
   abbrev node_check : Option OpenFault
   node_check = option_map fault_of_node (find_map (node_fault (catalogue_in b)) (nodes_in (blocks_in b)))
 
-  by_catalogues : Reads b h blocks → (xs : List Head) → catalogues_in blocks ≡ xs → catalogue_fault xs ≡ Some e → HasOpenFault used b e
-  by_catalogues reads [] are is =
+  by_catalogues : Reads b h blocks → length blocks ≤ most_blocks → (xs : List Head) → catalogues_in blocks ≡ xs → catalogue_fault xs ≡ Some e → HasOpenFault used b e
+  by_catalogues reads few [] are is =
       let same : faults.NoCatalogue ≡ e = cc in
-      subst (HasOpenFault used b) same (record { header = h; blocks = blocks; reads = reads; fact = are })
-  by_catalogues reads (x ∷ []) are is = cc
-  by_catalogues reads (x ∷ y ∷ ys) are is =
+      subst (HasOpenFault used b) same (record { header = h; blocks = blocks; reads = reads; few = few; fact = are })
+  by_catalogues reads few (x ∷ []) are is = cc
+  by_catalogues reads few (x ∷ y ∷ ys) are is =
       let same : faults.TwoCatalogues y.at ≡ e = cc in
-      subst (HasOpenFault used b) same (record { header = h; blocks = blocks; reads = reads; fact = rw are refl })
+      subst (HasOpenFault used b) same (record { header = h; blocks = blocks; reads = reads; few = few; fact = rw are refl })
 
-  of_node : ReadsCatalogue b h blocks c → layout_fault c h.width ≡ None → (fault : NodeFault) → find_map (node_fault c) (nodes_in blocks) ≡ Some fault → HasOpenFault used b (fault_of_node fault)
-  of_node reads none (NoStruct at) is = record { header = h; blocks = blocks; catalogue = c; reads = reads; fact = (none, is) }
-  of_node reads none (TooShort at) is = record { header = h; blocks = blocks; catalogue = c; reads = reads; fact = (none, is) }
+  of_node : ReadsCatalogue b h blocks c → length blocks ≤ most_blocks → layout_fault c h.width ≡ None → (fault : NodeFault) → find_map (node_fault c) (nodes_in blocks) ≡ Some fault → HasOpenFault used b (fault_of_node fault)
+  of_node reads few none (NoStruct at) is = record { header = h; blocks = blocks; catalogue = c; reads = reads; few = few; fact = (none, is) }
+  of_node reads few none (TooShort at) is = record { header = h; blocks = blocks; catalogue = c; reads = reads; few = few; fact = (none, is) }
 
-  after_layout : ReadsCatalogue b h blocks c → layout_fault c h.width ≡ None → (node_check ≡ Some e) ⊎ ((node_check ≡ None) × (first_of [] ≡ Some e)) → HasOpenFault used b e
-  after_layout reads none (inl is) =
+  after_layout : ReadsCatalogue b h blocks c → length blocks ≤ most_blocks → layout_fault c h.width ≡ None → (node_check ≡ Some e) ⊎ ((node_check ≡ None) × (first_of [] ≡ Some e)) → HasOpenFault used b e
+  after_layout reads few none (inl is) =
       let f = fault_of fault_of_node (find_map (node_fault c) (nodes_in blocks)) e is in
-      subst (HasOpenFault used b) (sym f.2) (of_node reads none f.0 f.1)
-  after_layout reads none (inr rest) = let never = rest.1 in cc
+      subst (HasOpenFault used b) (sym f.2) (of_node reads few none f.0 f.1)
+  after_layout reads few none (inr rest) = let never = rest.1 in cc
 
-  of_layout : ReadsCatalogue b h blocks c → (fault : LayoutFault) → layout_fault c h.width ≡ Some fault → HasOpenFault used b (named_fault c fault)
+  of_layout : ReadsCatalogue b h blocks c → length blocks ≤ most_blocks → (fault : LayoutFault) → layout_fault c h.width ≡ Some fault → HasOpenFault used b (named_fault c fault)
   unfolding named_fault
-  of_layout reads fault is = record { header = h; blocks = blocks; catalogue = c; reads = reads; fact = (fault, is, refl) }
+  of_layout reads few fault is = record { header = h; blocks = blocks; catalogue = c; reads = reads; few = few; fact = (fault, is, refl) }
 
-  after_catalogue : ReadsCatalogue b h blocks c → (layout_check ≡ Some e) ⊎ ((layout_check ≡ None) × (first_of (node_check ∷ []) ≡ Some e)) → HasOpenFault used b e
-  after_catalogue reads (inl is) =
+  after_catalogue : ReadsCatalogue b h blocks c → length blocks ≤ most_blocks → (layout_check ≡ Some e) ⊎ ((layout_check ≡ None) × (first_of (node_check ∷ []) ≡ Some e)) → HasOpenFault used b e
+  after_catalogue reads few (inl is) =
       let f = fault_of (named_fault c) (layout_fault c h.width) e is in
-      subst (HasOpenFault used b) (sym f.2) (of_layout reads f.0 f.1)
-  after_catalogue reads (inr rest) = after_layout reads (no_fault (named_fault c) (layout_fault c h.width) rest.0) (stops node_check [] e rest.1)
+      subst (HasOpenFault used b) (sym f.2) (of_layout reads few f.0 f.1)
+  after_catalogue reads few (inr rest) = after_layout reads few (no_fault (named_fault c) (layout_fault c h.width) rest.0) (stops node_check [] e rest.1)
 
   after_one : header_of b ≡ Ok h → blocks_of h b ≡ Ok blocks → (x : Head) → catalogues_in blocks ≡ x ∷ [] → (sdna_check ≡ Some e) ⊎ ((sdna_check ≡ None) × (first_of (layout_check ∷ node_check ∷ []) ≡ Some e)) → HasOpenFault used b e
   after_one header read x one (inl is) =
       let f = fault_of faults.Sdna (result_err (catalogue_read b)) e is in
       let fails : catalogue_of h.order (payload h b x) ≡ Err f.0 = subst (λ (xs : List Head). catalogue_of h.order (first_payload h b xs) ≡ Err f.0) one (error_of (catalogue_read b) f.0 f.1) in
-      subst (HasOpenFault used b) (sym f.2) (record { header = h; blocks = blocks; reads = reading_of_blocks b h blocks header read; fact = (x, one, fails) })
+      subst (HasOpenFault used b) (sym f.2) (record { header = h; blocks = blocks; reads = reading_of_blocks b h blocks header read; few = blocks_of_few b h blocks read; fact = (x, one, fails) })
   after_one header read x one (inr rest) =
       let catalogue = value_of (catalogue_read b) no_catalogue (no_fault faults.Sdna (result_err (catalogue_read b)) rest.0) in
       let own : catalogue_of h.order (payload h b x) ≡ Ok c = subst (λ (xs : List Head). catalogue_of h.order (first_payload h b xs) ≡ Ok c) one catalogue in
-      after_catalogue (record { reads = reading_of_blocks b h blocks header read; place = x; one_catalogue = one; catalogue = own }) (stops layout_check (node_check ∷ []) e rest.1)
+      after_catalogue (record { reads = reading_of_blocks b h blocks header read; place = x; one_catalogue = one; catalogue = own }) (blocks_of_few b h blocks read) (stops layout_check (node_check ∷ []) e rest.1)
 
   after_blocks : header_of b ≡ Ok h → blocks_of h b ≡ Ok blocks → (one_check ≡ Some e) ⊎ ((one_check ≡ None) × (first_of (sdna_check ∷ layout_check ∷ node_check ∷ []) ≡ Some e)) → HasOpenFault used b e
-  after_blocks header read (inl is) = by_catalogues (reading_of_blocks b h blocks header read) (catalogues_in blocks) refl is
+  after_blocks header read (inl is) = by_catalogues (reading_of_blocks b h blocks header read) (blocks_of_few b h blocks read) (catalogues_in blocks) refl is
   after_blocks header read (inr rest) =
       let one = one_catalogue (catalogues_in blocks) rest.0 in
       after_one header read one.0 one.1 (stops sdna_check (layout_check ∷ node_check ∷ []) e rest.1)

@@ -1,6 +1,6 @@
 -- What is so of the nodes of a file by that by which its pointers are read.
-use Rattle.std.proofs.Common.{◌≡◌, ◌≢◌, ◌<◌, ◌≤◌, inl, inr, ℕ, suc, ◌+◌, ◌^◌, Bool, true, false, cond, List, [], ◌∷◌, ◌++◌, length, get_or, Option, Some, None, refl, sym, ap, ◌∙◌, arith, eqb-true}
-use Rattle.std.specs.Prelude.{All, ◌==◌}
+use Rattle.std.proofs.Common.{◌≡◌, ◌≢◌, ◌<◌, inl, inr, ℕ, ◌^◌, false, cond, List, [], length, get_or, sym, ap, ◌∙◌, arith, eqb-true}
+use Rattle.std.specs.Prelude.{◌==◌}
 use Rattle.std.proofs.lemmas.Bool.{cases_lt, false_from_ne_true}
 use Rattle.std.proofs.lemmas.List.{get_or_past, get_or_default}
 use Rattle.bl_num.specs.declared.number.Width.{Width}
@@ -8,7 +8,6 @@ use Rattle.bl_format.specs.declared.file.Head.{Head}
 use Rattle.bl_format.specs.declared.file.Header.{Header}
 use Rattle.bl_format.specs.declared.catalogue.Catalogue.{Catalogue}
 use Rattle.bl_format.specs.declared.catalogue.TypeEntry.{TypeEntry}
-use Rattle.bl_format.specs.declared.raw.View.{View}
 use Rattle.bl_format.specs.Layout.{HasLayout, struct_entry, struct_length}
 use Rattle.bl_format.proofs.CatalogueRead.{IsCatalogue-catalogue_of}
 use Rattle.bl_selection.specs.Selection.{no_head}

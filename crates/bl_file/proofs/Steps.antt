@@ -1,10 +1,9 @@
 -- What each step of opening a file says of the bytes that are held.
-use Rattle.std.proofs.Common.{◌≡◌, ◌≤◌, ◌<◌, ◌+◌, ◌*◌, ◌^◌, ℕ, Bool, true, false, List, [], ◌∷◌, length, Option, Some, None, Result, Ok, Err, refl, sym, ap, subst, ◌∙◌, arith, get_or}
+use Rattle.std.proofs.Common.{◌≡◌, ◌≤◌, ◌<◌, ◌+◌, ◌*◌, ◌^◌, ℕ, Bool, true, false, List, [], ◌∷◌, length, Option, Some, None, Ok, refl, sym, ap, subst, ◌∙◌, arith, get_or}
 use Rattle.std.specs.Prelude.{All, not, option_map}
 use Rattle.std.specs.Option.{option_or}
 use Rattle.std.specs.Result.{result_err}
 use Rattle.std.proofs.lemmas.List.Elements.{All-nil, All-cons, All-head, All-filter, filter_passes}
-use Rattle.bl_num.specs.declared.number.Width.{Width}
 use Rattle.bl_format.specs.declared.file.Header.{Header}
 use Rattle.bl_format.specs.declared.file.Head.{Head}
 use Rattle.bl_format.specs.declared.catalogue.Catalogue.{Catalogue}

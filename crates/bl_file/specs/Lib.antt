@@ -1,4 +1,6 @@
 pub mod Groups
+pub mod Calls
+pub mod Frames
 pub mod Held
 pub mod Ids
 pub mod Opening
@@ -10,3 +12,5 @@ pub mod Views
 pub mod Seen
 pub mod Speakers
 pub mod Pages
+pub mod Paged
+pub mod SpeakingNodes

@@ -1,5 +1,5 @@
 -- What holds of an opened file's outline: of itself, and as that of some bytes.
-use Rattle.std.specs.Prelude.{◌≡◌, ℕ, ◌+◌, ◌*◌, ◌^◌, ◌<◌, ◌≤◌, Bool, false, List, [], length, map, get_or, All, Option, Some, None, Result, IfErr, codes}
+use Rattle.std.specs.Prelude.{◌≡◌, ℕ, ◌+◌, ◌*◌, ◌^◌, ◌<◌, ◌≤◌, Bool, false, List, [], length, map, get_or, All, Option, Some, None, codes}
 use Rattle.std.specs.Str.{bytes_eq}
 use Rattle.bl_num.specs.Numbers.{pointer_bytes}
 use Rattle.bl_format.specs.declared.file.Header.{Header}
@@ -85,9 +85,3 @@ abbrev pub BlamesRisen : OpenFault → ℕ → ℕ → ℕ → ℕ → Type 0
 BlamesRisen faults.Absent faults faults' misses misses' = Rose misses misses'
 BlamesRisen faults.Device faults faults' misses misses' = Rose faults faults'
 BlamesRisen _ faults faults' misses misses' = Unit {0}
-
--- no count of a shelf falls, and one that a fault blames has risen
-pub record HasOpenCause {T : Type 0} (faults faults' misses misses' : ℕ) (result : Result T OpenFault) : Type 0 where
-  pub faults_grow : faults ≤ faults'
-  pub misses_grow : misses ≤ misses'
-  pub blamed : IfErr result (λ fault. BlamesRisen fault faults faults' misses misses')

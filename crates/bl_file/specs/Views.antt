@@ -1,5 +1,5 @@
 -- What pointers say of raw nodes, as it is gathered: views of struct nodes are left out.
-use Rattle.std.specs.Prelude.{◌≡◌, ◌≤◌, ◌<◌, ℕ, ◌+◌, ◌*◌, ◌==◌, nat_le, if◌then◌else◌, Bool, false, List, [], ◌∷◌, length, map, flat_map, filter, slice_get, take, get_or, All, Option, Some, None}
+use Rattle.std.specs.Prelude.{◌≡◌, ◌<◌, ℕ, ◌+◌, ◌*◌, ◌==◌, nat_le, if◌then◌else◌, Bool, false, List, [], ◌∷◌, length, map, flat_map, filter, slice_get, take, get_or, All, Option, Some, None}
 use Rattle.std.specs.List.{enumerate_from}
 use Rattle.bl_num.specs.declared.number.Order.{Order}
 use Rattle.bl_format.specs.declared.file.Head.{Head}
@@ -14,10 +14,8 @@ use Rattle.bl_format.specs.Layout.{HasLayout, struct_length}
 use Rattle.bl_format.specs.Nodes.{is_pair_code, pair_length, viewed_kind}
 use Rattle.bl_format.specs.Graph.{Target, Naming}
 use Rattle.bl_selection.specs.Selection.{no_head}
-use Rattle.bl_shelf.specs.Told.{Told}
 use Rattle.bl_file.specs.declared.speakers.Speaker.{Speaker}
 use Rattle.bl_file.specs.declared.views.Sight.{Sight}
-use Rattle.bl_file.specs.Held.{IsHeldAnd}
 use Rattle.bl_file.specs.Outlines.{IsNodeIn}
 use Rattle.bl_file.specs.Seen.{Namings}
 use Rattle.bl_file.specs.Speakers.{basic_lengths, struct_speakers, speaker_number}
@@ -102,18 +100,7 @@ kind_by x viewed =
 abbrev pub kinds_by : List Head → List View → List RawKind
 kinds_by nodes views = map (λ (p : ℕ × Head). kind_by p.1 (viewed_kind views p.0)) (enumerate_from 0 nodes)
 
--- ---- what reading leaves
-
--- after some reads a shelf and a payload are as before, and no count of the shelf fell
-pub record StaysRead (was is : Option Told) (room room' : Option ℕ) (faults faults' misses misses' : ℕ)
-    (of of' : List ℕ) (n n' : ℕ) (Agrees' : List ℕ → Type 0) : Type 0 where
-  pub told : is ≡ was
-  pub room_is : room' ≡ room
-  pub faults_grow : faults ≤ faults'
-  pub misses_grow : misses ≤ misses'
-  pub name : of' ≡ of
-  pub size : n' ≡ n
-  pub agrees : IsHeldAnd was of Agrees'
+-- ---- what is read, and of what
 
 -- the views are of nodes that are there
 abbrev pub AreInside : List Head → List View → Type 0

@@ -1,42 +1,12 @@
 // The fault of a catalogue without a layout, with the names of the struct and the member.
 ghost use Rattle.std.specs.Prelude.{◌≡◌, ◌≢◌, ◌⊎◌, IfOk};
-ghost use Rattle.bl_format.specs.Layout.{struct_name, member_entry, name_entry};
 ghost use Rattle.bl_file.specs.Opening.{member_at, named_fault, owner_at, place_of_fault};
 
 use crate::fault::OpenFault;
 use bl_format::{Catalogue, LayoutFault};
 use bl_num::Text;
+use bl_sdna::{member_name, struct_name};
 use std::alloc::{AllocError, Global};
-
-// The name of a struct, and nothing where there is none of the number.
-fn struct_name(catalogue: &Catalogue, s: u32) -> &[u8]
-    ensures { result.now ≡ struct_name catalogue.now s }
-{
-    let Some(entry) = catalogue.structs.as_slice().get(s as usize) else {
-        return &[];
-    };
-    match catalogue.types.as_slice().get(entry.type_number as usize) {
-        Some(named) => named.name.as_slice(),
-        None => &[],
-    }
-}
-
-// The whole name of a member, and nothing where there is none of the numbers.
-fn member_name(catalogue: &Catalogue, s: u32, member: u32) -> &[u8]
-    ensures { result.now
-        ≡ name_entry catalogue.now (member_entry catalogue.now s member).name_number }
-{
-    let Some(entry) = catalogue.structs.as_slice().get(s as usize) else {
-        return &[];
-    };
-    let Some(member) = entry.members.as_slice().get(member as usize) else {
-        return &[];
-    };
-    match catalogue.names.as_slice().get(member.name_number as usize) {
-        Some(name) => name.as_slice(),
-        None => &[],
-    }
-}
 
 // The numbers of the struct and the member where a fault stands, if it stands at one.
 fn place_of_fault(fault: LayoutFault) -> Option<(u32, u32)>
@@ -75,13 +45,6 @@ fn member_at(catalogue: &Catalogue, place: Option<(u32, u32)>) -> &[u8]
     }
 }
 
-// Bytes as an owned text.
-fn owned_text(alloc: Global, bytes: &[u8]) -> Result<Text, AllocError>
-    ensures { IfOk result (λ text. text ≡ bytes.now) }
-{
-    Ok(Text::from_vec(Vec::from_slice(alloc, bytes)?))
-}
-
 // A layout's fault with the names of the struct and the member.
 #[tactic(auto, unfolding(crate::specs::Opening::named_fault))]
 fn named_fault(
@@ -92,8 +55,8 @@ fn named_fault(
     ensures { IfOk result (λ named. named ≡ named_fault catalogue.now fault) }
 {
     let place = place_of_fault(fault);
-    let owner = owned_text(alloc, owner_at(catalogue, place))?;
-    let member = owned_text(alloc, member_at(catalogue, place))?;
+    let owner = Text::from_slice(alloc, owner_at(catalogue, place))?;
+    let member = Text::from_slice(alloc, member_at(catalogue, place))?;
     Ok(OpenFault::Layout {
         fault,
         owner,

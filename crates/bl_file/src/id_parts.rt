@@ -2,13 +2,14 @@
 ghost use Rattle.std.specs.Prelude.{◌≡◌, ◌<◌, ◌≤◌, ◌+◌, ◌&&◌, ◌==◌, IfOk, length, codes};
 ghost use Rattle.std.specs.Str.{bytes_eq};
 ghost use Rattle.bl_format.specs.Words.{part};
-ghost use Rattle.bl_format.specs.Layout.{member_count, member_entry, name_entry, struct_name};
+ghost use Rattle.bl_format.specs.Layout.{member_count};
 ghost use Rattle.bl_format.specs.Nodes.{has_id_part, is_id_member};
 ghost use Rattle.bl_file.specs.Ids.{id_parts, is_id_struct};
 
 use bl_format::Catalogue;
 use bl_layout::{Layout, Shape};
 use bl_num::NoMemory;
+use bl_sdna::{member_name, struct_name};
 use std::alloc::Global;
 
 /// For each struct whether it has the part of an ID.
@@ -40,7 +41,7 @@ fn is_id_member(layout: &Layout, s: u32) -> bool
     ensures { result ≡ is_id_member layout.now.catalogue s 0 }
 {
     let shape = layout.member_shape(s, 0);
-    let name = first_member_name(layout.catalogue(), s);
+    let name = member_name(layout.catalogue(), s, 0);
     let identifier = identifier_in(name, &shape);
     is_one_id(
         identifier,
@@ -78,33 +79,4 @@ fn is_id_name(name: &[u8]) -> bool
     ensures { result ≡ bytes_eq name.now (codes "ID") }
 {
     name == b"ID".as_slice()
-}
-
-// The name of a struct, and nothing where there is none of the number.
-fn struct_name(catalogue: &Catalogue, s: u32) -> &[u8]
-    ensures { result.now ≡ struct_name catalogue.now s }
-{
-    let Some(entry) = catalogue.structs.as_slice().get(s as usize) else {
-        return &[];
-    };
-    match catalogue.types.as_slice().get(entry.type_number as usize) {
-        Some(named) => named.name.as_slice(),
-        None => &[],
-    }
-}
-
-// The whole name of a struct's first member, and nothing where there is none.
-fn first_member_name(catalogue: &Catalogue, s: u32) -> &[u8]
-    ensures { result.now ≡ name_entry catalogue.now (member_entry catalogue.now s 0).name_number }
-{
-    let Some(entry) = catalogue.structs.as_slice().get(s as usize) else {
-        return &[];
-    };
-    let Some(member) = entry.members.as_slice().first() else {
-        return &[];
-    };
-    match catalogue.names.as_slice().get(member.name_number as usize) {
-        Some(name) => name.as_slice(),
-        None => &[],
-    }
 }

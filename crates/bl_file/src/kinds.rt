@@ -2,8 +2,8 @@
 ghost use Rattle.std.specs.Prelude.{◌≡◌, ◌≤◌, ◌<◌, ◌^◌, All, None, IfOk, IfErr, IsErrOf, length};
 ghost use Rattle.bl_format.specs.Limits.{most_blocks};
 ghost use Rattle.bl_format.specs.Nodes.{is_pair_code};
-ghost use Rattle.bl_shelf.specs.Causes.{HasCause};
-ghost use Rattle.bl_file.specs.Held.{IsHeldAnd};
+ghost use Rattle.bl_file.specs.Calls.{Stays, Tells, IsOpen};
+ghost use Rattle.bl_file.specs.Frames.{CountsReads};
 ghost use Rattle.bl_file.specs.Opening.{kinds_in};
 ghost use Rattle.bl_file.specs.Outlines.{IsNodeIn, ArePairsLong, file_with, marks_of};
 ghost use Rattle.bl_file.specs.Seen.{kinds_seen, views_seen};
@@ -41,21 +41,15 @@ pub fn raw_kinds<S: Shelf, P: Payload, T: Targets>(
     requires small { P.file_size payload.old < 2 ^ 63 }
     requires few { length nodes.now < 2 ^ 32 }
     requires count { T.count targets.now ≡ length nodes.now }
-    requires held { IsHeldAnd (S.told shelf.old) (P.file_name payload.old) (P.agrees payload.old) }
+    requires held { IsOpen S.Shelf P.Payload shelf.old payload.old }
     ensures len { IfOk result (λ kinds. length kinds.items ≡ length nodes.now) }
     ensures kinds { IfOk result (λ kinds.
-        IsHeldAnd (S.told shelf.old) (P.file_name payload.old) (λ b. kinds.items
+        Tells S.Shelf P.Payload shelf.old payload.old (λ b. kinds.items
         ≡ kinds_seen nodes.now
         (views_seen (T.names targets.now) header.now layout.now.catalogue nodes.now b))) }
     ensures pairs { IfOk result (λ kinds. ArePairsLong nodes.now kinds.items) }
-    ensures name { P.file_name payload.new ≡ P.file_name payload.old }
-    ensures size { P.file_size payload.new ≡ P.file_size payload.old }
-    ensures agrees { IsHeldAnd (S.told shelf.old) (P.file_name payload.old) (P.agrees payload.new) }
-    ensures told { S.told shelf.new ≡ S.told shelf.old }
-    ensures room { S.room shelf.new ≡ S.room shelf.old }
-    ensures cause { HasCause (S.faults shelf.old) (S.faults shelf.new)
-        (S.misses shelf.old) (S.misses shelf.new) result }
-    ensures absent { IsErrOf result ShelfFault.Absent → S.told shelf.old ≡ None }
+    ensures stays { Stays S.Shelf P.Payload shelf.old shelf.new payload.old payload.new }
+    ensures cause { CountsReads S.Shelf shelf.old shelf.new result }
 {
     let basics = basic_lengths(alloc, layout.catalogue())?;
     let speakers = struct_speakers(alloc, layout, &basics)?;
@@ -96,20 +90,14 @@ pub fn kinds_of<S: Shelf, P: Payload>(
     requires small { P.file_size payload.old < 2 ^ 63 }
     requires few { length nodes.now ≤ most_blocks }
     requires table { table.now ≡ marks_of header.now layout.now.catalogue nodes.now }
-    requires held { IsHeldAnd (S.told shelf.old) (P.file_name payload.old) (P.agrees payload.old) }
+    requires held { IsOpen S.Shelf P.Payload shelf.old payload.old }
     ensures len { IfOk result (λ kinds. length kinds.items ≡ length nodes.now) }
     ensures kinds { IfOk result (λ kinds.
-        IsHeldAnd (S.told shelf.old) (P.file_name payload.old) (λ b. kinds.items
+        Tells S.Shelf P.Payload shelf.old payload.old (λ b. kinds.items
         ≡ kinds_in (file_with header.now layout.now.catalogue nodes.now b))) }
     ensures pairs { IfOk result (λ kinds. ArePairsLong nodes.now kinds.items) }
-    ensures name { P.file_name payload.new ≡ P.file_name payload.old }
-    ensures size { P.file_size payload.new ≡ P.file_size payload.old }
-    ensures agrees { IsHeldAnd (S.told shelf.old) (P.file_name payload.old) (P.agrees payload.new) }
-    ensures told { S.told shelf.new ≡ S.told shelf.old }
-    ensures room { S.room shelf.new ≡ S.room shelf.old }
-    ensures cause { HasCause (S.faults shelf.old) (S.faults shelf.new)
-        (S.misses shelf.old) (S.misses shelf.new) result }
-    ensures absent { IsErrOf result ShelfFault.Absent → S.told shelf.old ≡ None }
+    ensures stays { Stays S.Shelf P.Payload shelf.old shelf.new payload.old payload.new }
+    ensures cause { CountsReads S.Shelf shelf.old shelf.new result }
 {
     let targets = GroupTargets::new(alloc, table, nodes)?;
     raw_kinds(alloc, payload, shelf, header, layout, nodes, &targets)

@@ -5,10 +5,9 @@ ghost use Rattle.bl_format.specs.Blocks.{head_size};
 ghost use Rattle.bl_format.specs.Schema.{CanBeRead, catalogue_of, catalogue_written};
 ghost use Rattle.bl_format.specs.Layout.{HasLayout, layout_fault};
 ghost use Rattle.bl_format.specs.Nodes.{is_catalogue, catalogues_in, payload as payload_in};
-ghost use Rattle.bl_file.specs.Held.{IsHeldAnd};
+ghost use Rattle.bl_file.specs.Calls.{Stays, Tells, IsOpen, FailsFor, Blames};
 ghost use Rattle.bl_file.specs.Opening.{catalogue_fault, named_fault};
-ghost use Rattle.bl_file.specs.Outlines.{HasOpenCause};
-ghost use Rattle.bl_file.specs.Reading.{IsBlockIn, IsFaultOf};
+ghost use Rattle.bl_file.specs.Reading.{IsBlockIn};
 ghost use Rattle.bl_file.specs.Steps.{IsGiven, NoFaultIn, IsFormatFault, AreBlocksOf, IsCatalogueOf};
 
 use crate::fault::OpenFault;
@@ -73,21 +72,14 @@ fn read_payload<S: Shelf, P: Payload>(
     requires small { P.file_size payload.old < 2 ^ 63 }
     requires inside { head.now.at + head_size header.now + head.now.len
         ≤ P.file_size payload.old }
-    requires held { IsHeldAnd (S.told shelf.old) (P.file_name payload.old)
-        (P.agrees payload.old) }
+    requires held { IsOpen S.Shelf P.Payload shelf.old payload.old }
     ensures len { IfOk result (λ bytes. length bytes.items ≡ head.now.len) }
-    ensures bytes { IfOk result (λ bytes. IsHeldAnd (S.told shelf.old) (P.file_name payload.old)
+    ensures bytes { IfOk result (λ bytes. Tells S.Shelf P.Payload shelf.old payload.old
         (λ b. payload_in header.now b head.now ≡ bytes.items)) }
     ensures fault { IfErr result
-        (IsFaultOf (S.told shelf.old) (P.file_name payload.old) NoFaultIn) }
-    ensures name { P.file_name payload.new ≡ P.file_name payload.old }
-    ensures size { P.file_size payload.new ≡ P.file_size payload.old }
-    ensures agrees { IsHeldAnd (S.told shelf.old) (P.file_name payload.old)
-        (P.agrees payload.new) }
-    ensures told { S.told shelf.new ≡ S.told shelf.old }
-    ensures room { S.room shelf.new ≡ S.room shelf.old }
-    ensures cause { HasOpenCause (S.faults shelf.old) (S.faults shelf.new)
-        (S.misses shelf.old) (S.misses shelf.new) result }
+        (FailsFor S.Shelf P.Payload shelf.old payload.old NoFaultIn) }
+    ensures stays { Stays S.Shelf P.Payload shelf.old shelf.new payload.old payload.new }
+    ensures cause { Blames S.Shelf shelf.old shelf.new result }
 {
     let at = head.at + head_size(header) as u64;
     let mut bytes = vec![in alloc; 0; head.len as usize]?;
@@ -124,18 +116,18 @@ fn catalogue_of(alloc: Global, order: Order, bytes: &[u8]) -> Result<Catalogue, 
     }
 }
 
-// The layout of a catalogue.
-fn layout_of(alloc: Global, catalogue: &Catalogue, width: Width) -> Result<Layout, OpenFault>
-    requires { CanBeRead catalogue.now }
+// The layout of a catalogue, which it has from then on.
+fn layout_of(alloc: Global, catalogue: Catalogue, width: Width) -> Result<Layout, OpenFault>
+    requires { CanBeRead catalogue }
     ensures made { IfOk result (λ layout.
-        layout ≡ record { catalogue = catalogue.now; width = width }) }
-    ensures passes { OnOk result (layout_fault catalogue.now width ≡ None) }
+        layout ≡ record { catalogue = catalogue; width = width }) }
+    ensures passes { OnOk result (layout_fault catalogue width ≡ None) }
     ensures fault { IfErr result
-        (IsGiven (option_map (named_fault catalogue.now) (layout_fault catalogue.now width))) }
+        (IsGiven (option_map (named_fault catalogue) (layout_fault catalogue width))) }
 {
-    match Layout::new(alloc, catalogue, width) {
+    match Layout::from_catalogue(alloc, catalogue, width) {
         Ok(layout) => Ok(layout),
-        Err(fault) => Err(layout_fault(alloc, catalogue, fault)),
+        Err(refused) => Err(layout_fault(alloc, &refused.catalogue, refused.fault)),
     }
 }
 
@@ -149,26 +141,19 @@ pub fn read_layout<S: Shelf, P: Payload>(
 ) -> Result<Layout, OpenFault>
     requires small { P.file_size payload.old < 2 ^ 63 }
     requires sound { All (IsBlockIn header.now (P.file_size payload.old)) blocks.now }
-    requires held { IsHeldAnd (S.told shelf.old) (P.file_name payload.old)
-        (P.agrees payload.old) }
-    requires read { IsHeldAnd (S.told shelf.old) (P.file_name payload.old)
+    requires held { IsOpen S.Shelf P.Payload shelf.old payload.old }
+    requires read { Tells S.Shelf P.Payload shelf.old payload.old
         (AreBlocksOf header.now blocks.now) }
     ensures width { IfOk result (λ layout. layout.width ≡ header.now.width) }
     ensures has_layout { IfOk result (λ layout. HasLayout layout.catalogue layout.width) }
     ensures short { IfOk result (λ layout.
         length (catalogue_written header.now.order layout.catalogue) < 2 ^ 31) }
-    ensures read { IfOk result (λ layout. IsHeldAnd (S.told shelf.old) (P.file_name payload.old)
+    ensures read { IfOk result (λ layout. Tells S.Shelf P.Payload shelf.old payload.old
         (IsCatalogueOf header.now blocks.now layout.catalogue)) }
     ensures fault { IfErr result
-        (IsFaultOf (S.told shelf.old) (P.file_name payload.old) IsFormatFault) }
-    ensures name { P.file_name payload.new ≡ P.file_name payload.old }
-    ensures size { P.file_size payload.new ≡ P.file_size payload.old }
-    ensures agrees { IsHeldAnd (S.told shelf.old) (P.file_name payload.old)
-        (P.agrees payload.new) }
-    ensures told { S.told shelf.new ≡ S.told shelf.old }
-    ensures room { S.room shelf.new ≡ S.room shelf.old }
-    ensures cause { HasOpenCause (S.faults shelf.old) (S.faults shelf.new)
-        (S.misses shelf.old) (S.misses shelf.new) result }
+        (FailsFor S.Shelf P.Payload shelf.old payload.old IsFormatFault) }
+    ensures stays { Stays S.Shelf P.Payload shelf.old shelf.new payload.old payload.new }
+    ensures cause { Blames S.Shelf shelf.old shelf.new result }
 {
     let place = match one_catalogue(alloc, blocks) {
         Ok(place) => place,
@@ -182,7 +167,7 @@ pub fn read_layout<S: Shelf, P: Payload>(
         Ok(catalogue) => catalogue,
         Err(fault) => return Err(fault),
     };
-    match layout_of(alloc, &catalogue, header.width) {
+    match layout_of(alloc, catalogue, header.width) {
         Ok(layout) => Ok(layout),
         Err(fault) => Err(fault),
     }

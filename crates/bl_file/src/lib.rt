@@ -12,7 +12,6 @@ mod nodes;
 mod opened;
 mod outline;
 mod paged;
-mod parts;
 mod payload;
 mod reading;
 mod speakers;
@@ -29,6 +28,3 @@ pub use paged::PagedPayload;
 pub use payload::Payload;
 pub use targets::{FileTargets, Targets};
 pub use whole::WholePayload;
-
-#[cfg(test)]
-mod tests;

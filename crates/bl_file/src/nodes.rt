@@ -1,20 +1,19 @@
 // What is so of a file's nodes by their heads: faults, IDs, and what addresses name.
-ghost use Rattle.std.specs.Prelude.{◌≡◌, ◌≤◌, ◌<◌, ◌^◌, if◌then◌else◌, suc, IfOk, length, map, option_map};
-ghost use Rattle.std.specs.List.{enumerate_from};
+ghost use Rattle.std.specs.Prelude.{◌≡◌, ◌≤◌, IfOk, length, map, option_map};
 ghost use Rattle.bl_format.specs.declared.file.Head.{Head};
 ghost use Rattle.bl_format.specs.declared.file.Header.{Header};
 ghost use Rattle.bl_format.specs.declared.catalogue.Catalogue.{Catalogue};
 ghost use Rattle.bl_format.specs.Limits.{most_blocks};
 ghost use Rattle.bl_format.specs.Words.{find_map};
 ghost use Rattle.bl_format.specs.Blocks.{is_two_letter};
-ghost use Rattle.bl_format.specs.Nodes.{group_of, is_data, node_fault};
+ghost use Rattle.bl_format.specs.Nodes.{node_fault};
 ghost use Rattle.bl_file.specs.Ids.{is_id_by};
 ghost use Rattle.bl_file.specs.Opening.{fault_of_node};
 ghost use Rattle.bl_file.specs.Outlines.{ids_of, marks_of};
 
 use crate::fault::OpenFault;
 use crate::id_parts::id_parts;
-use bl_addresses::Table;
+use bl_addresses::{Table, groups_of};
 use bl_format::Head;
 use bl_layout::Layout;
 use bl_num::NoMemory;
@@ -89,35 +88,6 @@ pub fn table_of(alloc: Global, nodes: &[Head], ids: &[bool]) -> Result<Table, No
     let groups = groups_of(alloc, nodes)?;
     let addresses = addresses_of(alloc, nodes)?;
     Table::new(alloc, &groups, &addresses, ids)
-}
-
-// The number of each node's group.
-fn groups_of(alloc: Global, nodes: &[Head]) -> Result<Vec<u32>, NoMemory>
-    requires { length nodes.now < 2 ^ 32 }
-    ensures groups { IfOk result (λ groups. groups.items
-        ≡ map (λ p. group_of (map (λ (x : Head). x.code) nodes.now) p.0)
-        (enumerate_from 0 nodes.now)) }
-    ensures len { IfOk result (λ groups. length groups.items ≡ length nodes.now) }
-{
-    let mut groups = Vec::with_capacity(alloc, nodes.len())?;
-    let mut heads = 0;
-    for node in nodes {
-        heads = heads_after(node, heads);
-        groups.push(heads)?;
-    }
-    Ok(groups)
-}
-
-// How many nodes up to one head a group, by how many before it do.
-fn heads_after(node: &Head, before: u32) -> u32
-    requires { suc before < 2 ^ 32 }
-    ensures { result ≡ (if is_data node.now.code then before else suc before) }
-{
-    if node.code == *b"DATA" {
-        before
-    } else {
-        before + 1
-    }
 }
 
 // The address of each node.

@@ -3,11 +3,13 @@ ghost use Rattle.std.specs.Prelude.{◌≡◌, ◌≤◌, ◌<◌, ◌+◌, ◌*
 ghost use Rattle.bl_format.specs.Limits.{most_blocks, most_input_bytes, first_version, last_version};
 ghost use Rattle.bl_format.specs.Blocks.{header_size};
 ghost use Rattle.bl_format.specs.Nodes.{nodes_in};
+ghost use Rattle.bl_shelf.specs.Calls.{Keeps};
 ghost use Rattle.bl_shelf.specs.Told.{bytes_under};
+ghost use Rattle.bl_file.specs.Calls.{Stays, Tells, IsOpen, FailsFor, Blames};
 ghost use Rattle.bl_file.specs.Held.{IsHeldAnd};
 ghost use Rattle.bl_file.specs.Opening.{format_fault, open_fault};
-ghost use Rattle.bl_file.specs.Outlines.{IsSound, StandsFor, IsFirst, HasOpenCause};
-ghost use Rattle.bl_file.specs.Reading.{IsBlockIn, IsFaultOf};
+ghost use Rattle.bl_file.specs.Outlines.{IsSound, StandsFor, IsFirst};
+ghost use Rattle.bl_file.specs.Reading.{IsBlockIn};
 ghost use Rattle.bl_file.specs.Steps.{NoFaultIn, IsFormatFault, AreBlocksOf, IsFileOf, IsSoundFrame};
 
 use crate::fault::{OpenFault, shelf_fault};
@@ -35,25 +37,18 @@ fn read_front<S: Shelf, P: Payload>(
 ) -> Result<(Header, Vec<Head>), OpenFault>
     requires small { size ≤ most_input_bytes }
     requires size { P.file_size payload.old ≡ size }
-    requires held { IsHeldAnd (S.told shelf.old) (P.file_name payload.old)
-        (P.agrees payload.old) }
+    requires held { IsOpen S.Shelf P.Payload shelf.old payload.old }
     ensures version { IfOk result (λ read.
         (first_version ≤ read.0.version) × (read.0.version ≤ last_version)) }
     ensures sound { IfOk result (λ read. All (IsBlockIn read.0 size) read.1.items) }
     ensures few { IfOk result (λ read. length read.1.items ≤ most_blocks) }
     ensures spaced { IfOk result (λ read. header_size read.0 + 20 * length read.1.items ≤ size) }
-    ensures read { IfOk result (λ read. IsHeldAnd (S.told shelf.old) (P.file_name payload.old)
+    ensures read { IfOk result (λ read. Tells S.Shelf P.Payload shelf.old payload.old
         (AreBlocksOf read.0 read.1.items)) }
     ensures fault { IfErr result
-        (IsFaultOf (S.told shelf.old) (P.file_name payload.old) IsFormatFault) }
-    ensures name { P.file_name payload.new ≡ P.file_name payload.old }
-    ensures size { P.file_size payload.new ≡ P.file_size payload.old }
-    ensures agrees { IsHeldAnd (S.told shelf.old) (P.file_name payload.old)
-        (P.agrees payload.new) }
-    ensures told { S.told shelf.new ≡ S.told shelf.old }
-    ensures room { S.room shelf.new ≡ S.room shelf.old }
-    ensures cause { HasOpenCause (S.faults shelf.old) (S.faults shelf.new)
-        (S.misses shelf.old) (S.misses shelf.new) result }
+        (FailsFor S.Shelf P.Payload shelf.old payload.old IsFormatFault) }
+    ensures stays { Stays S.Shelf P.Payload shelf.old shelf.new payload.old payload.new }
+    ensures cause { Blames S.Shelf shelf.old shelf.new result }
 {
     let header = match read_header(payload, shelf, size) {
         Ok(header) => header,
@@ -84,26 +79,19 @@ fn outline_of<S: Shelf, P: Payload>(
 ) -> Result<Outline, OpenFault>
     requires frame { IsSoundFrame header layout nodes.items size }
     requires size { P.file_size payload.old ≡ size }
-    requires held { IsHeldAnd (S.told shelf.old) (P.file_name payload.old)
-        (P.agrees payload.old) }
-    requires read { IsHeldAnd (S.told shelf.old) (P.file_name payload.old)
+    requires held { IsOpen S.Shelf P.Payload shelf.old payload.old }
+    requires read { Tells S.Shelf P.Payload shelf.old payload.old
         (IsFileOf header layout.catalogue nodes.items) }
     ensures sound { IfOk result IsSound }
     ensures whole { IfOk result (λ outline. outline.size ≡ size) }
-    ensures stands { IfOk result (λ outline. IsHeldAnd (S.told shelf.old) (P.file_name payload.old)
+    ensures stands { IfOk result (λ outline. Tells S.Shelf P.Payload shelf.old payload.old
         (λ b. StandsFor b outline)) }
-    ensures passes { OnOk result (IsHeldAnd (S.told shelf.old) (P.file_name payload.old)
+    ensures passes { OnOk result (Tells S.Shelf P.Payload shelf.old payload.old
         (λ b. format_fault b ≡ None)) }
     ensures fault { IfErr result
-        (IsFaultOf (S.told shelf.old) (P.file_name payload.old) NoFaultIn) }
-    ensures name { P.file_name payload.new ≡ P.file_name payload.old }
-    ensures size { P.file_size payload.new ≡ P.file_size payload.old }
-    ensures agrees { IsHeldAnd (S.told shelf.old) (P.file_name payload.old)
-        (P.agrees payload.new) }
-    ensures told { S.told shelf.new ≡ S.told shelf.old }
-    ensures room { S.room shelf.new ≡ S.room shelf.old }
-    ensures cause { HasOpenCause (S.faults shelf.old) (S.faults shelf.new)
-        (S.misses shelf.old) (S.misses shelf.new) result }
+        (FailsFor S.Shelf P.Payload shelf.old payload.old NoFaultIn) }
+    ensures stays { Stays S.Shelf P.Payload shelf.old shelf.new payload.old payload.new }
+    ensures cause { Blames S.Shelf shelf.old shelf.new result }
 {
     let ids = ids_of(alloc, &layout, &nodes)?;
     let table = table_of(alloc, &nodes, &ids)?;
@@ -130,24 +118,17 @@ fn read_outline<S: Shelf, P: Payload>(
 ) -> Result<Outline, OpenFault>
     requires small { size ≤ most_input_bytes }
     requires size { P.file_size payload.old ≡ size }
-    requires held { IsHeldAnd (S.told shelf.old) (P.file_name payload.old)
-        (P.agrees payload.old) }
+    requires held { IsOpen S.Shelf P.Payload shelf.old payload.old }
     ensures sound { IfOk result IsSound }
     ensures whole { IfOk result (λ outline. outline.size ≡ size) }
-    ensures stands { IfOk result (λ outline. IsHeldAnd (S.told shelf.old) (P.file_name payload.old)
+    ensures stands { IfOk result (λ outline. Tells S.Shelf P.Payload shelf.old payload.old
         (λ b. StandsFor b outline)) }
-    ensures passes { OnOk result (IsHeldAnd (S.told shelf.old) (P.file_name payload.old)
+    ensures passes { OnOk result (Tells S.Shelf P.Payload shelf.old payload.old
         (λ b. format_fault b ≡ None)) }
     ensures fault { IfErr result
-        (IsFaultOf (S.told shelf.old) (P.file_name payload.old) IsFormatFault) }
-    ensures name { P.file_name payload.new ≡ P.file_name payload.old }
-    ensures size { P.file_size payload.new ≡ P.file_size payload.old }
-    ensures agrees { IsHeldAnd (S.told shelf.old) (P.file_name payload.old)
-        (P.agrees payload.new) }
-    ensures told { S.told shelf.new ≡ S.told shelf.old }
-    ensures room { S.room shelf.new ≡ S.room shelf.old }
-    ensures cause { HasOpenCause (S.faults shelf.old) (S.faults shelf.new)
-        (S.misses shelf.old) (S.misses shelf.new) result }
+        (FailsFor S.Shelf P.Payload shelf.old payload.old IsFormatFault) }
+    ensures stays { Stays S.Shelf P.Payload shelf.old shelf.new payload.old payload.new }
+    ensures cause { Blames S.Shelf shelf.old shelf.new result }
 {
     let (header, mut blocks) = match read_front(alloc, payload, shelf, size) {
         Ok(read) => read,
@@ -172,10 +153,8 @@ pub fn open<S: Shelf, P: Payload>(
     used: u64,
 ) -> Result<Opened<P>, OpenFault>
     requires { used ≤ most_input_bytes }
-    ensures told { S.told shelf.new ≡ S.told shelf.old }
-    ensures room { S.room shelf.new ≡ S.room shelf.old }
-    ensures cause { HasOpenCause (S.faults shelf.old) (S.faults shelf.new)
-        (S.misses shelf.old) (S.misses shelf.new) result }
+    ensures keeps { Keeps S.Shelf shelf.old shelf.new }
+    ensures cause { Blames S.Shelf shelf.old shelf.new result }
 
     // What is opened is sound, and stands for the bytes under the name.
     ensures sound { IfOk result (λ opened. IsSound opened.outline) }

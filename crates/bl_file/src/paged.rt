@@ -1,13 +1,12 @@
 // A file of which one page is held.
-ghost use Rattle.std.specs.Prelude.{◌≡◌, ◌≢◌, ◌+◌, ◌-◌, ◌<◌, ◌≤◌, ◌%◌, None, min, take, drop, length, string_bytes, IfOk, OnOk, IsErrOf};
+ghost use Rattle.std.specs.Prelude.{◌≡◌, ◌≢◌, ◌+◌, ◌-◌, ◌<◌, ◌≤◌, ◌%◌, min, take, length, IfOk, OnOk};
 ghost use Rattle.std.specs.Vec.{vec_len};
-ghost use Rattle.bl_shelf.specs.Causes.{HasCause};
+ghost use Rattle.bl_shelf.specs.Calls.{Keeps, Counts};
 ghost use Rattle.bl_shelf.specs.Contents.{Reaches, AreBytesAt, IsAbsentExactly};
-ghost use Rattle.bl_file.specs.Held.{IsHeldAnd};
-ghost use Rattle.bl_file.specs.Pages.{HavePage};
+ghost use Rattle.bl_file.specs.Frames.{CountsReads};
 
 use crate::Payload;
-use crate::parts::copy_part;
+use bl_num::copy_part;
 use bl_shelf::{Shelf, ShelfFault};
 use std::alloc::Global;
 
@@ -30,22 +29,16 @@ pub struct PagedPayload {
 }
 
 impl PagedPayload {
+    ghost use Rattle.bl_file.specs.Paged.{IsPaged, StaysPaged, page_name};
+
     // Reads the page that has a place, unless it is held. After a failure none is held.
     fn hold_page<S: Shelf>(&mut self, shelf: &mut S, at: u64) -> Result<(), ShelfFault>
         requires inside { at < self.old.size }
-        requires held { IsHeldAnd (S.told shelf.old) (string_bytes self.old.name)
-            (HavePage self.old.size self.old.page_at self.old.filled self.old.page.items) }
+        requires held { IsPaged S.Shelf shelf.old self.old }
         ensures page_at { OnOk result (self.new.page_at ≡ at - at % 65536) }
         ensures filled { OnOk result (at % 65536 < self.new.filled) }
-        ensures name { self.new.name ≡ self.old.name }
-        ensures size { self.new.size ≡ self.old.size }
-        ensures held { IsHeldAnd (S.told shelf.old) (string_bytes self.old.name)
-            (HavePage self.old.size self.new.page_at self.new.filled self.new.page.items) }
-        ensures told { S.told shelf.new ≡ S.told shelf.old }
-        ensures room { S.room shelf.new ≡ S.room shelf.old }
-        ensures cause { HasCause (S.faults shelf.old) (S.faults shelf.new)
-            (S.misses shelf.old) (S.misses shelf.new) result }
-        ensures absent { IsErrOf result ShelfFault.Absent → S.told shelf.old ≡ None }
+        ensures stays { StaysPaged S.Shelf shelf.old shelf.new self.old self.new }
+        ensures cause { CountsReads S.Shelf shelf.old shelf.new result }
         ensures no_memory { result ≢ Err ShelfFault.NoMemory }
     {
         let page_at = at - at % PAGE_SIZE;
@@ -70,21 +63,13 @@ impl PagedPayload {
     ) -> Result<usize, ShelfFault>
         requires inside { at + length dst.old ≤ self.old.size }
         requires some { 0 < length dst.old }
-        requires held { IsHeldAnd (S.told shelf.old) (string_bytes self.old.name)
-            (HavePage self.old.size self.old.page_at self.old.filled self.old.page.items) }
+        requires held { IsPaged S.Shelf shelf.old self.old }
         ensures some { IfOk result (λ n. 0 < n) }
         ensures within { IfOk result (λ n. n ≤ length dst.old) }
         ensures bytes { IfOk result (λ n.
-            AreBytesAt (S.told shelf.old) (string_bytes self.old.name) at (take n dst.new)) }
-        ensures name { self.new.name ≡ self.old.name }
-        ensures size { self.new.size ≡ self.old.size }
-        ensures held { IsHeldAnd (S.told shelf.old) (string_bytes self.old.name)
-            (HavePage self.old.size self.new.page_at self.new.filled self.new.page.items) }
-        ensures told { S.told shelf.new ≡ S.told shelf.old }
-        ensures room { S.room shelf.new ≡ S.room shelf.old }
-        ensures cause { HasCause (S.faults shelf.old) (S.faults shelf.new)
-            (S.misses shelf.old) (S.misses shelf.new) result }
-        ensures absent { IsErrOf result ShelfFault.Absent → S.told shelf.old ≡ None }
+            AreBytesAt (S.told shelf.old) (page_name self.old) at (take n dst.new)) }
+        ensures stays { StaysPaged S.Shelf shelf.old shelf.new self.old self.new }
+        ensures cause { CountsReads S.Shelf shelf.old shelf.new result }
         ensures no_memory { result ≢ Err ShelfFault.NoMemory }
     {
         self.hold_page(shelf, at)?;
@@ -96,11 +81,13 @@ impl PagedPayload {
 }
 
 impl Payload for PagedPayload {
-    ghost file_name = { λ p. string_bytes p.name };
+    ghost use Rattle.bl_file.specs.Paged.{HavePageOf, page_name};
+
+    ghost file_name = { λ p. page_name p };
 
     ghost file_size = { λ p. p.size };
 
-    ghost agrees = { λ p. HavePage p.size p.page_at p.filled p.page.items };
+    ghost agrees = { λ p. HavePageOf p };
 
     ghost agreed_size = { λ p bytes agrees. agrees.whole };
 
@@ -158,49 +145,10 @@ fn read_page<S: Shelf>(
     requires room { filled ≤ length page.old }
     requires reaches { Reaches (S.told shelf.old) name.now (at + filled) }
     ensures bytes { OnOk result (AreBytesAt (S.told shelf.old) name.now at (take filled page.new)) }
-    ensures told { S.told shelf.new ≡ S.told shelf.old }
-    ensures room { S.room shelf.new ≡ S.room shelf.old }
-    ensures cause { HasCause (S.faults shelf.old) (S.faults shelf.new)
-        (S.misses shelf.old) (S.misses shelf.new) result }
+    ensures keeps { Keeps S.Shelf shelf.old shelf.new }
+    ensures cause { Counts S.Shelf shelf.old shelf.new result }
     ensures absent { IsAbsentExactly (S.told shelf.old) name.now result }
     ensures no_memory { result ≢ Err ShelfFault.NoMemory }
 {
     shelf.read_at(name, at, &mut page[..filled])
-}
-
-#[cfg(test)]
-mod tests {
-    use super::*;
-    use crate::payload::tests::copy_twice;
-    use bl_shelf::MemoryShelf;
-    use std::test::Fail;
-
-    // The file's size is asked for by call 0, and its first page is read by call 1. So a call 2 is
-    // the first that reads another page, or a part that goes by no page.
-    #[test]
-    fn copies_parts(rt: HostRuntime) -> Result<(), Fail> {
-        let alloc = rt.alloc();
-        let mut file = vec![in alloc; b'.'; 65_534]?;
-        file.extend_from_slice(b"abcdefghij")?;
-        for (failing, places, len, ended, want) in [
-            (9, [0, 65_534], 2, Ok(()), b"ab".as_slice()),
-            (9, [0, 65_534], 5, Ok(()), b"abcde"),
-            (9, [65_540, 65_535], 4, Ok(()), b"bcde"),
-            (9, [0, 9], 65_535, Ok(()), b".abcdefghij"),
-            (9, [0, 2], 65_542, Ok(()), b".abcdefghij"),
-            (2, [65_537, 65_537], 4, Err(ShelfFault::Failed), b"defg"),
-            (2, [0, 8], 65_536, Err(ShelfFault::Failed), b".abcdefghij"),
-        ] {
-            let fails = vec![in alloc; failing]?;
-            let mut shelf = MemoryShelf::new(alloc, fails, false);
-            shelf.hold("a", &file)?;
-            let mut part = vec![in alloc; 0; len]?;
-            let first = copy_twice::<PagedPayload, MemoryShelf>(
-                alloc, &mut shelf, "a", places, &mut part,
-            )?;
-            assert_eq!(rt; first, ended);
-            assert!(rt; part.ends_with(want));
-        }
-        Ok(())
-    }
 }

@@ -1,8 +1,9 @@
 // The bytes of a file.
 ghost use Rattle.std.specs.Prelude.{◌≡◌, ◌≢◌, ◌+◌, ◌<◌, ◌≤◌, ℕ, List, All, length, None, IfOk, OnOk, IsErrOf, IfSome};
 ghost use Rattle.bl_shelf.specs.Told.{bytes_under};
-ghost use Rattle.bl_shelf.specs.Causes.{HasCause};
+ghost use Rattle.bl_shelf.specs.Calls.{Keeps, Counts};
 ghost use Rattle.bl_shelf.specs.Contents.{AreBytesAt};
+ghost use Rattle.bl_file.specs.Frames.{StaysAs, CountsReads};
 ghost use Rattle.bl_file.specs.Held.{ForHeld, IfHeld, IsHeldAnd};
 
 use bl_shelf::{Shelf, ShelfFault};
@@ -32,10 +33,8 @@ pub trait Payload: Sized + Drop {
         ensures size { IfOk result (λ payload. file_size payload ≡ size) }
         ensures agrees { IfOk result (λ payload.
             IfHeld (S.told shelf.old) name.now (agrees payload)) }
-        ensures told { S.told shelf.new ≡ S.told shelf.old }
-        ensures room { S.room shelf.new ≡ S.room shelf.old }
-        ensures cause { HasCause (S.faults shelf.old) (S.faults shelf.new)
-            (S.misses shelf.old) (S.misses shelf.new) result }
+        ensures keeps { Keeps S.Shelf shelf.old shelf.new }
+        ensures cause { Counts S.Shelf shelf.old shelf.new result }
         ensures absent { IsErrOf result ShelfFault.Absent
             → IfSome (S.told shelf.old) (λ t. bytes_under name.now t ≡ None) };
 
@@ -50,14 +49,8 @@ pub trait Payload: Sized + Drop {
         requires held { IsHeldAnd (S.told shelf.old) (file_name self.old) (agrees self.old) }
         ensures bytes { OnOk result
             (AreBytesAt (S.told shelf.old) (file_name self.old) at dst.new) }
-        ensures name { file_name self.new ≡ file_name self.old }
-        ensures size { file_size self.new ≡ file_size self.old }
-        ensures agrees { IsHeldAnd (S.told shelf.old) (file_name self.old) (agrees self.new) }
-        ensures told { S.told shelf.new ≡ S.told shelf.old }
-        ensures room { S.room shelf.new ≡ S.room shelf.old }
-        ensures cause { HasCause (S.faults shelf.old) (S.faults shelf.new)
-            (S.misses shelf.old) (S.misses shelf.new) result }
-        ensures absent { IsErrOf result ShelfFault.Absent → S.told shelf.old ≡ None }
+        ensures stays { StaysAs S.Shelf file_name file_size agrees shelf.old shelf.new self.old self.new }
+        ensures cause { CountsReads S.Shelf shelf.old shelf.new result }
         ensures no_memory { result ≢ Err ShelfFault.NoMemory };
 
     /// Bytes that the payload agrees with are as many as its size.
@@ -66,30 +59,4 @@ pub trait Payload: Sized + Drop {
     /// Bytes that the payload agrees with are below 256.
     ghost agreed_bytes: { (p : Self) (bytes : List ℕ) → agrees p bytes
         → All (λ byte. byte < 256) bytes };
-}
-
-#[cfg(test)]
-pub(crate) mod tests {
-    use super::*;
-
-    // Copies the part at one place of a file and then, over it, the one at another, and answers what
-    // the first copy ends with.
-    pub(crate) fn copy_twice<P: Payload, S: Shelf>(
-        alloc: Global,
-        shelf: &mut S,
-        name: &str,
-        places: [u64; 2],
-        part: &mut [u8],
-    ) -> Result<Result<(), ShelfFault>, ShelfFault> {
-        let size = shelf.size(name)?;
-        let mut payload = P::start(alloc, shelf, name, size)?;
-        let [first, second] = places;
-        let len = part.len() as u64;
-        if size < len || size - len < first || size - len < second {
-            return Err(ShelfFault::Absent);
-        }
-        let ended = payload.copy_out(shelf, first, part);
-        payload.copy_out(shelf, second, part)?;
-        Ok(ended)
-    }
 }

@@ -2,20 +2,16 @@
 ghost use Rattle.std.specs.Prelude.{◌≡◌, ◌+◌, ◌-◌, ◌*◌, ◌^◌, ◌<◌, ◌≤◌, All, min, length, Ok, IfOk, OnOk, IfErr};
 ghost use Rattle.bl_format.specs.Limits.{first_version, last_version, most_blocks};
 ghost use Rattle.bl_format.specs.Blocks.{header_of, header_size, head_size, step_in, step_at, blocks_of};
-ghost use Rattle.bl_file.specs.Held.{IsHeldAnd};
-ghost use Rattle.bl_file.specs.Outlines.{HasOpenCause};
-ghost use Rattle.bl_file.specs.Reading.{IsCopyFault, IsFaultOf, IsPartAt, with_fault, IsHeaderFault, IsStepFault, IsBlocksFault, IsOfHeader, IsOfBlocks, IsBlockIn, IsStepIn};
+ghost use Rattle.bl_file.specs.Calls.{Stays, Tells, IsOpen, FailsFor, Blames};
+ghost use Rattle.bl_file.specs.Reading.{IsCopyFault, IsPartAt, with_fault, IsHeaderFault, IsStepFault, IsBlocksFault, IsOfHeader, IsOfBlocks, IsBlockIn, IsStepIn};
 
 use crate::fault::shelf_fault;
 use crate::{OpenFault, Payload};
-use bl_blocks::{MAX_BLOCKS, head_size, next_block};
+use bl_blocks::{LONGEST_HEAD, MAX_BLOCKS, head_size, next_block};
 use bl_format::{BlockFault, Head, Header, Step};
 use bl_header::{HEADER_SIZE, parse_header};
 use bl_shelf::Shelf;
 use std::alloc::Global;
-
-// The bytes of the longest head.
-const LONGEST_HEAD: usize = 24;
 
 /// The header of a file.
 pub fn read_header<S: Shelf, P: Payload>(
@@ -24,24 +20,17 @@ pub fn read_header<S: Shelf, P: Payload>(
     size: u64,
 ) -> Result<Header, OpenFault>
     requires size { P.file_size payload.old ≡ size }
-    requires held { IsHeldAnd (S.told shelf.old) (P.file_name payload.old)
-        (P.agrees payload.old) }
+    requires held { IsOpen S.Shelf P.Payload shelf.old payload.old }
     ensures version { IfOk result (λ header.
         (first_version ≤ header.version) × (header.version ≤ last_version)) }
     ensures whole { IfOk result (λ header. header_size header ≤ size) }
-    ensures read { IfOk result (λ header. IsHeldAnd (S.told shelf.old) (P.file_name payload.old)
+    ensures read { IfOk result (λ header. Tells S.Shelf P.Payload shelf.old payload.old
         (λ bytes. header_of bytes ≡ Ok header)) }
     ensures fault { IfErr result
-        (IsFaultOf (S.told shelf.old) (P.file_name payload.old) IsHeaderFault) }
+        (FailsFor S.Shelf P.Payload shelf.old payload.old IsHeaderFault) }
     ensures kind { IfErr result IsOfHeader }
-    ensures name { P.file_name payload.new ≡ P.file_name payload.old }
-    ensures size { P.file_size payload.new ≡ P.file_size payload.old }
-    ensures agrees { IsHeldAnd (S.told shelf.old) (P.file_name payload.old)
-        (P.agrees payload.new) }
-    ensures told { S.told shelf.new ≡ S.told shelf.old }
-    ensures room { S.room shelf.new ≡ S.room shelf.old }
-    ensures cause { HasOpenCause (S.faults shelf.old) (S.faults shelf.new)
-        (S.misses shelf.old) (S.misses shelf.new) result }
+    ensures stays { Stays S.Shelf P.Payload shelf.old shelf.new payload.old payload.new }
+    ensures cause { Blames S.Shelf shelf.old shelf.new result }
 {
     let mut window = [0u8; HEADER_SIZE];
     let part = &mut window[..size.min(HEADER_SIZE as u64) as usize];
@@ -60,24 +49,17 @@ pub fn read_blocks<S: Shelf, P: Payload>(
     requires whole { header_size header.now ≤ size }
     requires small { size < 2 ^ 63 }
     requires size { P.file_size payload.old ≡ size }
-    requires held { IsHeldAnd (S.told shelf.old) (P.file_name payload.old)
-        (P.agrees payload.old) }
+    requires held { IsOpen S.Shelf P.Payload shelf.old payload.old }
     ensures sound { IfOk result (λ heads. All (IsBlockIn header.now size) heads.items) }
     ensures few { IfOk result (λ heads. length heads.items ≤ most_blocks) }
     ensures spaced { IfOk result (λ heads. header_size header.now + 20 * length heads.items ≤ size) }
-    ensures read { IfOk result (λ heads. IsHeldAnd (S.told shelf.old) (P.file_name payload.old)
+    ensures read { IfOk result (λ heads. Tells S.Shelf P.Payload shelf.old payload.old
         (λ bytes. blocks_of header.now bytes ≡ Ok heads.items)) }
-    ensures fault { IfErr result (IsFaultOf (S.told shelf.old) (P.file_name payload.old)
+    ensures fault { IfErr result (FailsFor S.Shelf P.Payload shelf.old payload.old
         (IsBlocksFault header.now)) }
     ensures kind { IfErr result IsOfBlocks }
-    ensures name { P.file_name payload.new ≡ P.file_name payload.old }
-    ensures size { P.file_size payload.new ≡ P.file_size payload.old }
-    ensures agrees { IsHeldAnd (S.told shelf.old) (P.file_name payload.old)
-        (P.agrees payload.new) }
-    ensures told { S.told shelf.new ≡ S.told shelf.old }
-    ensures room { S.room shelf.new ≡ S.room shelf.old }
-    ensures cause { HasOpenCause (S.faults shelf.old) (S.faults shelf.new)
-        (S.misses shelf.old) (S.misses shelf.new) result }
+    ensures stays { Stays S.Shelf P.Payload shelf.old shelf.new payload.old payload.new }
+    ensures cause { Blames S.Shelf shelf.old shelf.new result }
 {
     let mut heads = Vec::new(alloc);
     let mut at = HEADER_SIZE as u64;
@@ -104,22 +86,15 @@ fn read_step<S: Shelf, P: Payload>(
     requires behind { header_size header.now ≤ at }
     requires inside { at ≤ size }
     requires size { P.file_size payload.old ≡ size }
-    requires held { IsHeldAnd (S.told shelf.old) (P.file_name payload.old)
-        (P.agrees payload.old) }
+    requires held { IsOpen S.Shelf P.Payload shelf.old payload.old }
     ensures sound { IfOk result (IsStepIn header.now at size) }
-    ensures read { IfOk result (λ step. IsHeldAnd (S.told shelf.old) (P.file_name payload.old)
+    ensures read { IfOk result (λ step. Tells S.Shelf P.Payload shelf.old payload.old
         (λ bytes. step_at header.now bytes at ≡ Ok step)) }
-    ensures fault { IfErr result (IsFaultOf (S.told shelf.old) (P.file_name payload.old)
+    ensures fault { IfErr result (FailsFor S.Shelf P.Payload shelf.old payload.old
         (IsStepFault header.now at)) }
     ensures kind { IfErr result IsOfBlocks }
-    ensures name { P.file_name payload.new ≡ P.file_name payload.old }
-    ensures size { P.file_size payload.new ≡ P.file_size payload.old }
-    ensures agrees { IsHeldAnd (S.told shelf.old) (P.file_name payload.old)
-        (P.agrees payload.new) }
-    ensures told { S.told shelf.new ≡ S.told shelf.old }
-    ensures room { S.room shelf.new ≡ S.room shelf.old }
-    ensures cause { HasOpenCause (S.faults shelf.old) (S.faults shelf.new)
-        (S.misses shelf.old) (S.misses shelf.new) result }
+    ensures stays { Stays S.Shelf P.Payload shelf.old shelf.new payload.old payload.new }
+    ensures cause { Blames S.Shelf shelf.old shelf.new result }
 {
     let mut window = [0u8; LONGEST_HEAD];
     let part = &mut window[..(size - at).min(head_size(header) as u64) as usize];
@@ -135,19 +110,12 @@ pub fn read_part<S: Shelf, P: Payload>(
     dst: &mut [u8],
 ) -> Result<(), OpenFault>
     requires inside { at + length dst.old ≤ P.file_size payload.old }
-    requires held { IsHeldAnd (S.told shelf.old) (P.file_name payload.old)
-        (P.agrees payload.old) }
-    ensures bytes { OnOk result (IsHeldAnd (S.told shelf.old) (P.file_name payload.old)
+    requires held { IsOpen S.Shelf P.Payload shelf.old payload.old }
+    ensures bytes { OnOk result (Tells S.Shelf P.Payload shelf.old payload.old
         (IsPartAt (P.file_size payload.old) at dst.new)) }
     ensures fault { IfErr result (IsCopyFault (S.told shelf.old)) }
-    ensures name { P.file_name payload.new ≡ P.file_name payload.old }
-    ensures size { P.file_size payload.new ≡ P.file_size payload.old }
-    ensures agrees { IsHeldAnd (S.told shelf.old) (P.file_name payload.old)
-        (P.agrees payload.new) }
-    ensures told { S.told shelf.new ≡ S.told shelf.old }
-    ensures room { S.room shelf.new ≡ S.room shelf.old }
-    ensures cause { HasOpenCause (S.faults shelf.old) (S.faults shelf.new)
-        (S.misses shelf.old) (S.misses shelf.new) result }
+    ensures stays { Stays S.Shelf P.Payload shelf.old shelf.new payload.old payload.new }
+    ensures cause { Blames S.Shelf shelf.old shelf.new result }
 {
     match payload.copy_out(shelf, at, dst) {
         Ok(()) => Ok(()),

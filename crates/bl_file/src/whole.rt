@@ -2,8 +2,7 @@
 ghost use Rattle.std.specs.Prelude.{◌≡◌, ◌<◌, All, length};
 
 use crate::Payload;
-use crate::parts::copy_part;
-use bl_num::Text;
+use bl_num::{Text, copy_part};
 use bl_shelf::{Shelf, ShelfFault};
 use std::alloc::Global;
 
@@ -49,33 +48,6 @@ impl Payload for WholePayload {
         dst: &mut [u8],
     ) -> Result<(), ShelfFault> {
         copy_part(self.bytes.as_slice(), at, dst);
-        Ok(())
-    }
-}
-
-#[cfg(test)]
-mod tests {
-    use super::*;
-    use crate::payload::tests::copy_twice;
-    use bl_shelf::SteadyShelf;
-    use std::test::Fail;
-
-    #[test]
-    fn copies_parts(rt: HostRuntime) -> Result<(), Fail> {
-        let alloc = rt.alloc();
-        for (bytes, places, want) in [
-            (b"abcdef".as_slice(), [3, 2], b"cd"),
-            (b"abc", [0, 1], b"bc"),
-        ] {
-            let mut shelf = SteadyShelf::new(alloc);
-            shelf.hold("a", bytes)?;
-            let mut part = [0u8; 2];
-            let first = copy_twice::<WholePayload, SteadyShelf>(
-                alloc, &mut shelf, "a", places, &mut part,
-            )?;
-            assert_eq!(rt; first, Ok(()));
-            assert_eq!(rt; &part, want);
-        }
         Ok(())
     }
 }

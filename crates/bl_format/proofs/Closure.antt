@@ -7,10 +7,7 @@ use Rattle.std.specs.List.{list_any}
 use Rattle.std.proofs.lemmas.Bool.{cases_lt, eqb-true}
 use Rattle.std.proofs.lemmas.List.{length-append}
 use Rattle.bl_format.specs.Words.{numbers_below, contains, one_link_further, numbers_reached, IsChain}
-
-length-below : (n : ℕ) → length (numbers_below n) ≡ n
-length-below zero = refl
-length-below (suc n) = omega (arith, length-append (numbers_below n) (n ∷ []), length-below n)
+use Rattle.bl_format.proofs.NumbersBelow.{length-numbers_below}
 
 or_true : (a b : Bool) → (a || b) ≡ true → (a ≡ true) ⊎ (b ≡ true)
 or_true true b e = inl refl
@@ -84,7 +81,7 @@ length-filter-le p (x ∷ xs) = elim (p x) as (λ b. length (cond b (x ∷ filte
 
 round_fits : (leads : ℕ → ℕ → Bool) (n : ℕ) (roots : List ℕ) (k : ℕ)
     → length (numbers_reached leads n k roots) ≤ n
-round_fits leads n roots k = rw (round_is leads n roots k) (omega (arith, length-filter-le (round_test leads n roots k) (numbers_below n), length-below n))
+round_fits leads n roots k = rw (round_is leads n roots k) (omega (arith, length-filter-le (round_test leads n roots k) (numbers_below n), length-numbers_below n))
 
 -- a round that adds nothing is followed by such rounds
 same_again : (leads : ℕ → ℕ → Bool) (n : ℕ) (roots : List ℕ) (k : ℕ)

@@ -8,6 +8,7 @@ pub mod FileSpelled
 pub mod HeadBack
 pub mod HeaderBack
 pub mod Nesting
+pub mod NumbersBelow
 pub mod OneReading
 pub mod StepBack
 pub mod HeaderFacts

@@ -2,7 +2,7 @@
 -- groups and IDs are Blender's (`readfile`, `writefile`, the struct `ID`). This project's own: which checks
 -- accept a file, that index 0 alone marks raw data, in which scope an address is looked up, and the kinds
 -- of raw blocks.
-use Rattle.std.specs.Prelude.{◌≡◌, ℕ, zero, suc, ◌+◌, ◌*◌, Bool, true, false, not, ◌&&◌, ◌||◌, ◌==◌, nat_le, nat_lt, if◌then◌else◌, List, [], ◌∷◌, length, take, map, filter, count_by, Option, Some, None, Ok, Err, codes}
+use Rattle.std.specs.Prelude.{◌≡◌, ◌≤◌, ℕ, zero, suc, ◌+◌, ◌*◌, Bool, true, false, not, ◌&&◌, ◌||◌, ◌==◌, nat_le, nat_lt, if◌then◌else◌, List, [], ◌∷◌, length, take, map, filter, count_by, Option, Some, None, Ok, Err, codes}
 use Rattle.std.specs.List.{list_all, enumerate_from}
 use Rattle.std.specs.Option.{option_or}
 use Rattle.std.specs.Str.{bytes_eq}
@@ -17,7 +17,8 @@ use Rattle.bl_format.specs.declared.raw.RawKind.{RawKind}
 use Rattle.bl_format.specs.declared.raw.RawKind.TheVariants.{Bytes, Numbers, Pointers, Pair}
 use Rattle.bl_format.specs.declared.raw.View.{View}
 use Rattle.bl_format.specs.Words.{find_map, part, last_place, contains}
-use Rattle.bl_format.specs.Blocks.{header_of, Reads, Breaks, head_size, is_two_letter}
+use Rattle.bl_format.specs.Limits.{most_blocks}
+use Rattle.bl_format.specs.Blocks.{header_of, Reads, HasBlockFault, head_size, is_two_letter}
 use Rattle.bl_format.specs.Schema.{catalogue_of}
 use Rattle.bl_format.specs.Layout.{Basic, IsWhole, IsFloat, IsVoid, basic_named, type_entry, member_count, struct_name, struct_length, name_of, inner_struct, layout_fault}
 
@@ -92,19 +93,21 @@ abbrev pub IsSecondAt : List Head → ℕ → Type 0
 IsSecondAt (x ∷ y ∷ ys) at = y.at ≡ at
 IsSecondAt _ at = ⊥
 
--- the bytes read as a header and blocks for which a fact holds
+-- the bytes read as a header and no more blocks than the limit, for which a fact holds
 pub record ReadsAs (b : List ℕ) (Fact : Header → List Head → Type 0) : Type 0 where
   pub header : Header
   pub blocks : List Head
   pub reads : Reads b header blocks
+  pub few : length blocks ≤ most_blocks
   pub fact : Fact header blocks
 
--- the bytes read as a header, blocks and a catalogue for which a fact holds
+-- the bytes read as a header, no more blocks than the limit, and a catalogue, for which a fact holds
 pub record ReadsCatalogueAs (b : List ℕ) (Fact : Header → List Head → Catalogue → Type 0) : Type 0 where
   pub header : Header
   pub blocks : List Head
   pub catalogue : Catalogue
   pub reads : ReadsCatalogue b header blocks catalogue
+  pub few : length blocks ≤ most_blocks
   pub fact : Fact header blocks catalogue
 
 -- one block holds a catalogue, and it has this fault
@@ -118,10 +121,10 @@ abbrev pub HasNodeFault : NodeFault → Header → List Head → Catalogue → T
 HasNodeFault fault h blocks c =
     (layout_fault c h.width ≡ None) × (find_map (node_fault c) (nodes_in blocks) ≡ Some fault)
 
--- the first check that the bytes fail
+-- the first check that the bytes fail; that there are too many blocks is a fault of the blocks
 abbrev pub IsRefused : List ℕ → OpeningFault → Type 0
 IsRefused b (InHeader fault) = header_of b ≡ Err fault
-IsRefused b (InBlocks fault) = (h : Header) × Breaks b h fault
+IsRefused b (InBlocks fault) = (h : Header) × HasBlockFault b h fault
 IsRefused b NoCatalogue = ReadsAs b (λ h blocks. catalogues_in blocks ≡ [])
 IsRefused b (TwoCatalogues at) = ReadsAs b (λ h blocks. IsSecondAt (catalogues_in blocks) at)
 IsRefused b (InCatalogue fault) = ReadsAs b (HasCatalogueFault b fault)

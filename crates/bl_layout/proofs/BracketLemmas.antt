@@ -8,7 +8,7 @@ use Rattle.std.proofs.lemmas.List.{length-drop, length-take, get_or-take}
 use Rattle.std.proofs.lemmas.List.Sums.{prefix_len_passes}
 use Rattle.bl_format.specs.Limits.{most_elements}
 use Rattle.bl_format.specs.Members.{extents, number_in}
-use Rattle.bl_layout.specs.Names.{bounded_count, opens_number}
+use Rattle.bl_layout.specs.MemberNames.{bounded_count, opens_number}
 
 -- the count of some brackets behind others of a count
 abbrev pub count_from : ℕ → List ℕ → Option ℕ

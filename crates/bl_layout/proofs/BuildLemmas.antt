@@ -16,7 +16,7 @@ use Rattle.bl_format.specs.Schema.{IsCatalogue}
 use Rattle.bl_format.specs.Limits.{most_elements}
 use Rattle.bl_format.specs.Members.{MemberName, member_name, other_name, function_name, plain_name, function_parts, plain_parts, within_count, is_word_byte}
 use Rattle.bl_format.specs.Words.{numbers_below}
-use Rattle.bl_layout.specs.Names.{name_parts}
+use Rattle.bl_layout.specs.MemberNames.{name_parts}
 use Rattle.bl_format.specs.Layout.{NamedLeaf, type_entry, struct_entry, member_entry, member_count, member_numbers, struct_length, name_of, content_of, kind_of, is_bad_length, inner_struct, element_size, member_size, member_offset, leaf_behind, member_step, inner_leaves, leaves_by, member_leaves, named_leaves, leaf_of, leaves_of, first_fault}
 use Rattle.bl_format.proofs.MemberPasses.{member_passes}
 use Rattle.bl_format.proofs.LeavesApart.{named_leaves-within}

@@ -19,3 +19,4 @@ pub mod CountLemmas
 pub mod BuildLemmas
 pub mod LevelLemmas
 pub mod LeafFactLemmas
+pub mod PointeeLemmas

@@ -13,8 +13,8 @@ use Rattle.std.specs.Prelude.{codes, ◌&&◌, nat_le, slice_index}
 use Rattle.std.proofs.lemmas.Slice.Eq.{bytes_eq-Decides}
 use Rattle.bl_format.specs.Limits.{most_elements}
 use Rattle.bl_format.specs.Members.{MemberName, member_name, other_name, within_count, function_name, function_parts, extents, number_in, product, is_word_byte, plain_parts, plain_name}
-use Rattle.bl_layout.specs.declared.names.NameShape.{NameShape}
-use Rattle.bl_layout.specs.Names.{name_parts, shape_of_name, bounded_count, bounded_shape, bracket_count, opens_number}
+use Rattle.bl_layout.specs.declared.member_names.NameShape.{NameShape}
+use Rattle.bl_layout.specs.MemberNames.{name_parts, shape_of_name, bounded_count, bounded_shape, bracket_count, opens_number}
 
 and_left : (a b : Bool) → (a && b) ≡ true → a ≡ true
 and_left true b e = refl

@@ -6,8 +6,8 @@ use Rattle.std.proofs.lemmas.List.{length-take, get_or-take, take_all, get_or-ma
 use Rattle.bl_format.specs.declared.catalogue.Catalogue.{Catalogue}
 use Rattle.bl_format.specs.declared.catalogue.StructEntry.{StructEntry}
 use Rattle.bl_format.specs.Schema.{IsCatalogue}
-use Rattle.bl_layout.specs.declared.names.NameEntry.{NameEntry}
-use Rattle.bl_layout.specs.Names.{entry_of_name, name_parts}
+use Rattle.bl_layout.specs.declared.member_names.NameEntry.{NameEntry}
+use Rattle.bl_layout.specs.MemberNames.{entry_of_name, name_parts}
 use Rattle.bl_layout.specs.Identifiers.{identifier_of}
 use Rattle.bl_layout.specs.Tables.{numbered}
 

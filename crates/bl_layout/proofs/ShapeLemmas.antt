@@ -11,7 +11,7 @@ use Rattle.bl_format.specs.Limits.{most_elements}
 use Rattle.bl_format.specs.Members.{MemberName, member_name, other_name, within_count, plain_name, plain_parts, function_name, function_parts, extents, is_word_byte}
 use Rattle.bl_format.specs.Schema.{CanBeRead}
 use Rattle.bl_format.specs.Layout.{name_entry, member_entry, name_of, element_size, member_size, inner_struct, shape_of}
-use Rattle.bl_layout.specs.Names.{name_parts, shape_of_name, entry_of_name}
+use Rattle.bl_layout.specs.MemberNames.{name_parts, shape_of_name, entry_of_name}
 use Rattle.bl_layout.specs.Sizes.{inner_of}
 use Rattle.bl_layout.specs.Leaves.{part_of}
 use Rattle.bl_layout.specs.Shapes.{IsShort, shape_with}

@@ -6,7 +6,7 @@ use Rattle.std.specs.Option.{option_or}
 use Rattle.std.proofs.lemmas.Bool.{eqb-true}
 use Rattle.std.proofs.lemmas.List.{get_or-set_same, get_or-set_other, take_more, length-set, length-take}
 use Rattle.bl_format.specs.declared.catalogue.StructEntry.{StructEntry}
-use Rattle.bl_layout.specs.Basics.{IsStructTable, struct_among}
+use Rattle.bl_layout.specs.BasicTypes.{IsStructTable, struct_among}
 
 -- the place of the first element that passes, with one element more at the end
 pub position_from-push : {X : Type 0} (p : X → Bool) (i : ℕ) (xs : List X) (x : X)

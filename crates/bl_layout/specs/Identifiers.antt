@@ -9,7 +9,7 @@ use Rattle.std.specs.Str.{bytes_eq}
 use Rattle.bl_format.specs.Words.{contains, numbers_below}
 use Rattle.bl_format.specs.declared.catalogue.MemberEntry.{MemberEntry}
 use Rattle.bl_layout.specs.First.{IsFirst}
-use Rattle.bl_layout.specs.Names.{name_parts}
+use Rattle.bl_layout.specs.MemberNames.{name_parts}
 
 -- the identifier of the name of a number
 abbrev pub identifier_of : List (List ℕ) → ℕ → List ℕ

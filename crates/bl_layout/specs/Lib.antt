@@ -1,5 +1,5 @@
-pub mod Names
-pub mod Basics
+pub mod MemberNames
+pub mod BasicTypes
 pub mod First
 pub mod Identifiers
 pub mod Tables
@@ -7,8 +7,8 @@ pub mod Sizes
 pub mod Check
 pub mod Graph
 pub mod Nesting
-pub mod Survey
-pub mod Foundation
+pub mod CheckTables
+pub mod ShapeTables
 pub mod Shapes
 pub mod LaidOut
 pub mod Counts

@@ -2,7 +2,7 @@
 use Rattle.std.specs.Prelude.{ℕ, ◌<◌, ◌*◌, ◌^◌, Option}
 use Rattle.bl_format.specs.declared.layout.Shape.{Shape}
 use Rattle.bl_layout.specs.declared.leaves.Part.{Part}
-use Rattle.bl_layout.specs.declared.names.NameShape.{NameShape}
+use Rattle.bl_layout.specs.declared.member_names.NameShape.{NameShape}
 
 -- the places and lengths in a name fit 32 bits
 pub record IsShort (name : NameShape) : Type 0 where

@@ -6,7 +6,7 @@ use Rattle.bl_format.specs.declared.catalogue.Catalogue.{Catalogue}
 use Rattle.bl_format.specs.declared.catalogue.MemberEntry.{MemberEntry}
 use Rattle.bl_format.specs.Members.{MemberName}
 use Rattle.bl_format.specs.Layout.{Basic, Content, IsBasic, IsStruct, IsOpaque, name_entry, type_entry, is_bad_length, content_of, struct_of_content}
-use Rattle.bl_layout.specs.Names.{name_parts}
+use Rattle.bl_layout.specs.MemberNames.{name_parts}
 
 -- what a member's name says
 abbrev pub parts_of : Catalogue → MemberEntry → MemberName

@@ -2,8 +2,8 @@
 use Rattle.std.specs.Prelude.{◌≡◌, ◌^◌, List, map, take}
 use Rattle.bl_format.specs.declared.catalogue.Catalogue.{Catalogue}
 use Rattle.bl_layout.specs.declared.tables.Tables.{Tables}
-use Rattle.bl_layout.specs.Names.{entry_of_name}
-use Rattle.bl_layout.specs.Basics.{AreContents}
+use Rattle.bl_layout.specs.MemberNames.{entry_of_name}
+use Rattle.bl_layout.specs.BasicTypes.{AreContents}
 
 -- the first of some names or types: those that a number of 16 bits may mean
 unfoldable pub numbered : {A : Type 0} → List A → List A

@@ -14,7 +14,7 @@ use bl_num::Width;
 use std::alloc::Global;
 
 /// A member and what is known of it beside its entry.
-#[derive(Clone, Copy, Debug)]
+#[derive(Clone, Copy)]
 pub struct Checked {
     pub s: u32,
     pub member: u32,

@@ -135,24 +135,3 @@ fn set_at(values: &mut [u32], number: u32, value: u32) {
         *place = value;
     }
 }
-
-#[cfg(test)]
-mod tests {
-    use super::*;
-
-    #[test]
-    fn numbers_components(rt: HostRuntime) -> Result<(), AllocError> {
-        let alloc = rt.alloc();
-        let links = vec![in alloc;
-            vec![in alloc; 1, 2]?,
-            vec![in alloc; 3]?,
-            Vec::new(alloc),
-            vec![in alloc; 4]?,
-            vec![in alloc; 1, 2]?,
-            vec![in alloc; 0]?,
-        ]?;
-        let numbers = component_numbers(alloc, &links)?;
-        assert_eq!(rt; numbers.as_slice(), [3, 2, 1, 2, 2, 4].as_slice());
-        Ok(())
-    }
-}

@@ -15,18 +15,12 @@ pub fn copy_of(alloc: Global, catalogue: &Catalogue) -> Result<Catalogue, AllocE
     })
 }
 
-fn copy_of_text(alloc: Global, text: &[u8]) -> Result<Text, AllocError>
-    ensures { IfOk result (λ copy. copy ≡ text.now) }
-{
-    Ok(Text::from_vec(text.to_vec(alloc)?))
-}
-
 fn copy_of_names(alloc: Global, names: &[Text]) -> Result<Items<Text>, AllocError>
     ensures { IfOk result (λ copy. copy ≡ names.now) }
 {
     let mut copy = Vec::with_capacity(alloc, names.len())?;
     for name in names {
-        copy.push(copy_of_text(alloc, name.as_slice())?)?;
+        copy.push(Text::from_slice(alloc, name.as_slice())?)?;
     }
     Ok(Items::from_vec(copy))
 }
@@ -36,12 +30,18 @@ fn copy_of_types(alloc: Global, types: &[TypeEntry]) -> Result<Items<TypeEntry>,
 {
     let mut copy = Vec::with_capacity(alloc, types.len())?;
     for entry in types {
-        copy.push(TypeEntry {
-            name: copy_of_text(alloc, entry.name.as_slice())?,
-            length: entry.length,
-        })?;
+        copy.push(copy_of_type(alloc, entry)?)?;
     }
     Ok(Items::from_vec(copy))
+}
+
+fn copy_of_type(alloc: Global, entry: &TypeEntry) -> Result<TypeEntry, AllocError>
+    ensures { IfOk result (λ copy. copy ≡ entry.now) }
+{
+    Ok(TypeEntry {
+        name: Text::from_slice(alloc, entry.name.as_slice())?,
+        length: entry.length,
+    })
 }
 
 fn copy_of_structs(alloc: Global, structs: &[StructEntry]) -> Result<Items<StructEntry>, AllocError>
@@ -49,10 +49,16 @@ fn copy_of_structs(alloc: Global, structs: &[StructEntry]) -> Result<Items<Struc
 {
     let mut copy = Vec::with_capacity(alloc, structs.len())?;
     for entry in structs {
-        copy.push(StructEntry {
-            type_number: entry.type_number,
-            members: Items::from_vec(entry.members.as_slice().to_vec(alloc)?),
-        })?;
+        copy.push(copy_of_struct(alloc, entry)?)?;
     }
     Ok(Items::from_vec(copy))
+}
+
+fn copy_of_struct(alloc: Global, entry: &StructEntry) -> Result<StructEntry, AllocError>
+    ensures { IfOk result (λ copy. copy ≡ entry.now) }
+{
+    Ok(StructEntry {
+        type_number: entry.type_number,
+        members: Items::from_vec(entry.members.as_slice().to_vec(alloc)?),
+    })
 }

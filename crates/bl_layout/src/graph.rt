@@ -1,12 +1,12 @@
 ghost use Rattle.std.specs.Prelude.{◌≡◌, ◌<◌, All, IfOk, length};
 ghost use Rattle.bl_format.specs.Schema.{IsCatalogue, MemberFits};
 ghost use Rattle.bl_layout.specs.Tables.{AreTables};
-ghost use Rattle.bl_layout.specs.Basics.{content_meant};
+ghost use Rattle.bl_layout.specs.BasicTypes.{content_meant};
 ghost use Rattle.bl_format.specs.Layout.{struct_of_content};
 ghost use Rattle.bl_layout.specs.Sizes.{inner_of};
 ghost use Rattle.bl_layout.specs.Graph.{AreInnerStructs, inner_among};
 
-use crate::basics::Content;
+use crate::basic_types::Content;
 use crate::members::{content_of, name_of};
 use crate::tables::Tables;
 use bl_format::{Catalogue, MemberEntry};

@@ -1,8 +1,8 @@
 ghost use Rattle.std.specs.Prelude.{◌≡◌, ◌<◌, ◌^◌, IfOk, length, map, unwrap_or};
-ghost use Rattle.bl_layout.specs.Names.{entry_of_name};
+ghost use Rattle.bl_layout.specs.MemberNames.{entry_of_name};
 ghost use Rattle.bl_layout.specs.Identifiers.{AreIdentifierNumbers, Learns, known_number};
 
-use crate::names::{NameEntry, identifier_in};
+use crate::member_names::{NameEntry, identifier_in};
 use bl_num::Text;
 use std::alloc::{AllocError, Global};
 use std::collections::BTreeMap;

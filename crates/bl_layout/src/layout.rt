@@ -1,27 +1,30 @@
 ghost use Rattle.std.specs.Prelude.{◌≡◌, ◌<◌, ◌⊎◌, None, Some, All, IfOk, IfErr, OnOk, length};
 ghost use Rattle.bl_format.specs.Schema.{CanBeRead, IsCatalogue};
-ghost use Rattle.bl_layout.specs.Foundation.{IsGroundwork};
+ghost use Rattle.bl_layout.specs.ShapeTables.{IsLayoutTables};
+ghost use Rattle.bl_layout.specs.LaidOut.{IsLaidOut};
 ghost use Rattle.bl_layout.specs.LeafFacts.{AreApart, IsSized, EndsAtZero};
-ghost use Rattle.bl_format.specs.Layout.{HasLayout, first_fault, depth_fault, layout_fault, leaves_of, struct_length, shape_of, member_count};
+ghost use Rattle.bl_format.specs.Nodes.{pointed_length};
+ghost use Rattle.bl_format.specs.Layout.{HasLayout, basic_named, first_fault, type_entry, depth_fault, layout_fault, leaves_of, struct_length, shape_of, member_count};
 
 use crate::copy::copy_of;
-use crate::foundation::{Foundation, Groundwork, groundwork_of};
 use crate::leaf_counts::{leaf_counts, leaves_fault};
 use crate::leaf_levels::leaf_table;
-use crate::parts::member_count;
+use crate::member_parts::member_count;
+use crate::pointees::pointee_length;
+use crate::shape_tables::{LayoutTables, ShapeTables, layout_tables_of};
 use crate::shapes::{member_shape, struct_count, struct_length};
 use bl_format::{Catalogue, LayoutFault, Leaf, Shape};
 use bl_num::Width;
 use std::alloc::Global;
 use std::marker::Model;
 
-/// Where the members of a catalogue's structs stand, and what leaves they have. It has its own copy
-/// of the catalogue.
-#[derive(Debug, Drop)]
+/// Where the members of a catalogue's structs stand, and what leaves they have: Blender's `SDNA` with
+/// what `DNA_genfile` works out of it. It has the catalogue too.
+#[derive(Drop)]
 pub struct Layout {
     catalogue: Catalogue,
     width: Width,
-    foundation: Foundation,
+    shape_tables: ShapeTables,
     leaves: Vec<Vec<Leaf>>,
 }
 
@@ -32,11 +35,18 @@ impl Model for Layout {
 
     ghost view = { λ l. record { catalogue = l.catalogue; width = l.width } };
 
-    ghost invariant = { λ l. IsLaidOut l.catalogue l.width l.foundation l.leaves.items };
+    ghost invariant = { λ l. IsLaidOut l.catalogue l.width l.shape_tables l.leaves.items };
+}
+
+/// A catalogue that is given back, and the first check of a layout that it fails.
+#[derive(Drop)]
+pub struct RefusedCatalogue {
+    pub catalogue: Catalogue,
+    pub fault: LayoutFault,
 }
 
 impl Layout {
-    /// Lays out all structs of a catalogue, or says which check fails first.
+    /// Lays out all structs of a copy of a catalogue, or says which check fails first.
     pub fn new(alloc: Global, catalogue: &Catalogue, width: Width) -> Result<Layout, LayoutFault>
         requires { CanBeRead catalogue.now }
         ensures made { IfOk result (λ layout.
@@ -45,13 +55,36 @@ impl Layout {
         ensures refuses { IfErr result (λ fault. (fault ≡ LayoutFault.NoMemory)
             ⊎ (layout_fault catalogue.now width ≡ Some fault)) }
     {
-        let groundwork = checked_groundwork(alloc, catalogue, width)?;
-        Ok(Layout {
-            catalogue: copy_of(alloc, catalogue)?,
-            width,
-            leaves: leaf_table(alloc, catalogue, width, &groundwork)?,
-            foundation: groundwork.foundation,
-        })
+        let copy = copy_of(alloc, catalogue)?;
+        match Layout::from_catalogue(alloc, copy, width) {
+            Ok(layout) => Ok(layout),
+            Err(refused) => Err(refused.fault),
+        }
+    }
+
+    /// Lays out all structs of a catalogue, or says which check fails first and gives it back.
+    pub fn from_catalogue(
+        alloc: Global,
+        catalogue: Catalogue,
+        width: Width,
+    ) -> Result<Layout, RefusedCatalogue>
+        requires { CanBeRead catalogue }
+        ensures made { IfOk result (λ layout.
+            layout ≡ record { catalogue = catalogue; width = width }) }
+        ensures passes { OnOk result (layout_fault catalogue width ≡ None) }
+        ensures given_back { IfErr result (λ refused. refused.catalogue ≡ catalogue) }
+        ensures refuses { IfErr result (λ refused. (refused.fault ≡ LayoutFault.NoMemory)
+            ⊎ (layout_fault catalogue width ≡ Some refused.fault)) }
+    {
+        match tables_and_leaves(alloc, &catalogue, width) {
+            Ok((layout_tables, leaves)) => Ok(Layout {
+                catalogue,
+                width,
+                shape_tables: layout_tables.shape_tables,
+                leaves,
+            }),
+            Err(fault) => Err(RefusedCatalogue { catalogue, fault }),
+        }
     }
 
     /// The catalogue that is laid out.
@@ -104,6 +137,15 @@ impl Layout {
         struct_length(&self.catalogue, s)
     }
 
+    /// The bytes of what a pointer to a type points to, if that is a basic type: those that Blender
+    /// gives it, and where it may have two lengths, the one that it has here.
+    pub fn pointee_length(&self, type_number: u16) -> Option<u8>
+        ensures { result ≡ pointed_length self.now.catalogue type_number
+            (basic_named (type_entry self.now.catalogue type_number).name) }
+    {
+        pointee_length(&self.catalogue, &self.shape_tables.tables, type_number)
+    }
+
     /// What is known of a member by its name and its place.
     pub fn member_shape(&self, s: u32, member: u32) -> Shape
         requires s { s < length self.now.catalogue.structs }
@@ -111,28 +153,46 @@ impl Layout {
         ensures shape { result ≡ shape_of self.now.catalogue self.now.width s member }
         ensures has_layout { HasLayout self.now.catalogue self.now.width }
     {
-        member_shape(&self.catalogue, self.width, &self.foundation, s, member)
+        member_shape(&self.catalogue, self.width, &self.shape_tables, s, member)
     }
 }
 
-// The groundwork of a layout that passes all checks.
-fn checked_groundwork(
+// The layout_tables of a layout that passes all checks, and the leaves of each struct.
+fn tables_and_leaves(
     alloc: Global,
     catalogue: &Catalogue,
     width: Width,
-) -> Result<Groundwork, LayoutFault>
+) -> Result<(LayoutTables, Vec<Vec<Leaf>>), LayoutFault>
+    requires { CanBeRead catalogue.now }
+    ensures laid_out { IfOk result (λ made.
+        IsLaidOut catalogue.now width made.0.shape_tables made.1.items) }
+    ensures passes { OnOk result (layout_fault catalogue.now width ≡ None) }
+    ensures refuses { IfErr result (λ fault. (fault ≡ LayoutFault.NoMemory)
+        ⊎ (layout_fault catalogue.now width ≡ Some fault)) }
+{
+    let layout_tables = checked_layout_tables(alloc, catalogue, width)?;
+    let leaves = leaf_table(alloc, catalogue, width, &layout_tables)?;
+    Ok((layout_tables, leaves))
+}
+
+// The layout_tables of a layout that passes all checks.
+fn checked_layout_tables(
+    alloc: Global,
+    catalogue: &Catalogue,
+    width: Width,
+) -> Result<LayoutTables, LayoutFault>
     requires { IsCatalogue catalogue.now }
-    ensures stands { IfOk result (IsGroundwork catalogue.now width) }
+    ensures stands { IfOk result (IsLayoutTables catalogue.now width) }
     ensures members { OnOk result (first_fault catalogue.now width ≡ None) }
     ensures depth { OnOk result (depth_fault catalogue.now ≡ None) }
     ensures passes { OnOk result (layout_fault catalogue.now width ≡ None) }
     ensures refuses { IfErr result (λ fault. (fault ≡ LayoutFault.NoMemory)
         ⊎ (layout_fault catalogue.now width ≡ Some fault)) }
 {
-    let groundwork = groundwork_of(alloc, catalogue, width)?;
-    let counts = leaf_counts(alloc, catalogue, width, &groundwork)?;
+    let layout_tables = layout_tables_of(alloc, catalogue, width)?;
+    let counts = leaf_counts(alloc, catalogue, width, &layout_tables)?;
     match leaves_fault(catalogue, width, &counts) {
         Some(fault) => Err(fault),
-        None => Ok(groundwork),
+        None => Ok(layout_tables),
     }
 }

@@ -2,13 +2,13 @@ ghost use Rattle.std.specs.Prelude.{◌≡◌, ◌<◌, ◌+◌, ◌^◌, None, 
 ghost use Rattle.bl_format.specs.Schema.{IsCatalogue, MemberFits};
 ghost use Rattle.bl_format.specs.Layout.{first_fault, depth_fault, leaves_fault, nesting};
 ghost use Rattle.bl_layout.specs.Tables.{AreTables};
-ghost use Rattle.bl_layout.specs.Foundation.{IsGroundwork};
+ghost use Rattle.bl_layout.specs.ShapeTables.{IsLayoutTables};
 ghost use Rattle.bl_layout.specs.Counts.{AreCounts, leaf_count, leaf_counts_in, count_of_member, count_of_members};
 
-use crate::foundation::Groundwork;
 use crate::graph::inner_struct;
 use crate::members::{member_size, name_of};
 use crate::nesting::MAX_NESTING;
+use crate::shape_tables::LayoutTables;
 use crate::tables::Tables;
 use bl_format::{Catalogue, LayoutFault, MemberEntry};
 use bl_num::Width;
@@ -22,17 +22,23 @@ pub fn leaf_counts(
     alloc: Global,
     catalogue: &Catalogue,
     width: Width,
-    groundwork: &Groundwork,
+    layout_tables: &LayoutTables,
 ) -> Result<Vec<u64>, AllocError>
     requires catalogue { IsCatalogue catalogue.now }
-    requires groundwork { IsGroundwork catalogue.now width groundwork.now }
+    requires layout_tables { IsLayoutTables catalogue.now width layout_tables.now }
     requires members { first_fault catalogue.now width ≡ None }
     requires depth { depth_fault catalogue.now ≡ None }
     ensures { IfOk result (λ counts. counts.items ≡ leaf_counts_in catalogue.now width) }
 {
     let mut counts = vec![in alloc; 0; catalogue.structs.as_slice().len()]?;
     for depth in 1..MAX_NESTING + 1 {
-        count_nested(catalogue, width, groundwork, depth, counts.as_mut_slice());
+        count_nested(
+            catalogue,
+            width,
+            layout_tables,
+            depth,
+            counts.as_mut_slice(),
+        );
     }
     Ok(counts)
 }
@@ -41,23 +47,23 @@ pub fn leaf_counts(
 fn count_nested(
     catalogue: &Catalogue,
     width: Width,
-    groundwork: &Groundwork,
+    layout_tables: &LayoutTables,
     depth: u64,
     counts: &mut [u64],
 )
     requires catalogue { IsCatalogue catalogue.now }
-    requires groundwork { IsGroundwork catalogue.now width groundwork.now }
+    requires layout_tables { IsLayoutTables catalogue.now width layout_tables.now }
     requires members { first_fault catalogue.now width ≡ None }
     requires depth { depth_fault catalogue.now ≡ None }
     requires before { AreCounts catalogue.now width depth 0 counts.old }
     ensures { AreCounts catalogue.now width (depth + 1) 0 counts.new }
 {
     for s in 0..counts.len() as u32 {
-        if groundwork.nestings[s as usize] == depth {
+        if layout_tables.nestings[s as usize] == depth {
             let count = struct_leaves(
                 catalogue,
                 width,
-                &groundwork.foundation.tables,
+                &layout_tables.shape_tables.tables,
                 depth,
                 s,
                 counts,

@@ -1,14 +1,14 @@
 ghost use Rattle.std.specs.Prelude.{◌≡◌, ◌<◌, ◌+◌, ◌^◌, ◌++◌, All, None, IfOk, OnOk, length, map};
 ghost use Rattle.bl_format.specs.Schema.{IsCatalogue};
 ghost use Rattle.bl_format.specs.Layout.{depth_fault, first_fault, leaves_of, member_count, struct_numbers};
-ghost use Rattle.bl_layout.specs.Foundation.{IsFoundation, IsGroundwork};
+ghost use Rattle.bl_layout.specs.ShapeTables.{IsShapeTables, IsLayoutTables};
 ghost use Rattle.bl_layout.specs.Leaves.{InnerStand, StandBelow, lists_of, member_leaf_list};
 
-use crate::foundation::{Foundation, Groundwork};
 use crate::graph::inner_struct;
 use crate::leaves::{own_leaf, push_elements};
+use crate::member_parts::{entry_of, is_empty, kind_at, member_count, part_of};
 use crate::nesting::MAX_NESTING;
-use crate::parts::{entry_of, is_empty, kind_at, member_count, part_of};
+use crate::shape_tables::{LayoutTables, ShapeTables};
 use bl_format::{Catalogue, Leaf};
 use bl_num::Width;
 use std::alloc::{AllocError, Global};
@@ -18,23 +18,23 @@ pub fn leaf_table(
     alloc: Global,
     catalogue: &Catalogue,
     width: Width,
-    groundwork: &Groundwork,
+    layout_tables: &LayoutTables,
 ) -> Result<Vec<Vec<Leaf>>, AllocError>
     requires catalogue { IsCatalogue catalogue.now }
-    requires groundwork { IsGroundwork catalogue.now width groundwork.now }
+    requires layout_tables { IsLayoutTables catalogue.now width layout_tables.now }
     requires members { first_fault catalogue.now width ≡ None }
     requires depth { depth_fault catalogue.now ≡ None }
     requires names { All (λ n. length n < 2 ^ 32) catalogue.now.names }
     ensures { IfOk result (λ table. map (λ v. v.items) table.items
         ≡ map (leaves_of catalogue.now width) (struct_numbers catalogue.now)) }
 {
-    let mut table = empty_lists(alloc, groundwork.nestings.len())?;
+    let mut table = empty_lists(alloc, layout_tables.nestings.len())?;
     for nesting in 1..MAX_NESTING + 1 {
         build_level(
             alloc,
             catalogue,
             width,
-            groundwork,
+            layout_tables,
             nesting,
             table.as_mut_slice(),
         )?;
@@ -58,25 +58,25 @@ fn build_level(
     alloc: Global,
     catalogue: &Catalogue,
     width: Width,
-    groundwork: &Groundwork,
+    layout_tables: &LayoutTables,
     nesting: u64,
     table: &mut [Vec<Leaf>],
 ) -> Result<(), AllocError>
     requires catalogue { IsCatalogue catalogue.now }
-    requires groundwork { IsGroundwork catalogue.now width groundwork.now }
+    requires layout_tables { IsLayoutTables catalogue.now width layout_tables.now }
     requires members { first_fault catalogue.now width ≡ None }
     requires depth { depth_fault catalogue.now ≡ None }
     requires names { All (λ n. length n < 2 ^ 32) catalogue.now.names }
     requires below { StandBelow catalogue.now width nesting (lists_of table.old) }
     ensures { OnOk result (StandBelow catalogue.now width (nesting + 1) (lists_of table.new)) }
 {
-    for (s, own) in groundwork.nestings.iter().enumerate() {
+    for (s, own) in layout_tables.nestings.iter().enumerate() {
         if *own == nesting {
             table[s] = struct_leaves(
                 alloc,
                 catalogue,
                 width,
-                &groundwork.foundation,
+                &layout_tables.shape_tables,
                 table,
                 s as u32,
             )?;
@@ -90,12 +90,12 @@ fn struct_leaves(
     alloc: Global,
     catalogue: &Catalogue,
     width: Width,
-    foundation: &Foundation,
+    shape_tables: &ShapeTables,
     table: &[Vec<Leaf>],
     s: u32,
 ) -> Result<Vec<Leaf>, AllocError>
     requires catalogue { IsCatalogue catalogue.now }
-    requires foundation { IsFoundation catalogue.now width foundation.now }
+    requires shape_tables { IsShapeTables catalogue.now width shape_tables.now }
     requires members { first_fault catalogue.now width ≡ None }
     requires depth { depth_fault catalogue.now ≡ None }
     requires names { All (λ n. length n < 2 ^ 32) catalogue.now.names }
@@ -110,7 +110,7 @@ fn struct_leaves(
             alloc,
             catalogue,
             width,
-            foundation,
+            shape_tables,
             table,
             s,
             k,
@@ -125,14 +125,14 @@ fn push_member(
     alloc: Global,
     catalogue: &Catalogue,
     width: Width,
-    foundation: &Foundation,
+    shape_tables: &ShapeTables,
     table: &[Vec<Leaf>],
     s: u32,
     k: u32,
     leaves: &mut Vec<Leaf>,
 ) -> Result<(), AllocError>
     requires catalogue { IsCatalogue catalogue.now }
-    requires foundation { IsFoundation catalogue.now width foundation.now }
+    requires shape_tables { IsShapeTables catalogue.now width shape_tables.now }
     requires members { first_fault catalogue.now width ≡ None }
     requires names { All (λ n. length n < 2 ^ 32) catalogue.now.names }
     requires place { s < length catalogue.now.structs }
@@ -143,14 +143,14 @@ fn push_member(
         ++ member_leaf_list (leaves_of catalogue.now width) catalogue.now width s k) }
 {
     let entry = entry_of(catalogue, s, k);
-    let part = part_of(catalogue, width, foundation, s, k, entry);
+    let part = part_of(catalogue, width, shape_tables, s, k, entry);
     if is_empty(part) {
         return Ok(());
     }
-    match inner_struct(catalogue, &foundation.tables, entry) {
+    match inner_struct(catalogue, &shape_tables.tables, entry) {
         Some(t) => push_elements(alloc, part, &table[t as usize], leaves),
         None => {
-            let kind = kind_at(catalogue, &foundation.tables, entry);
+            let kind = kind_at(catalogue, &shape_tables.tables, entry);
             leaves.push(own_leaf(alloc, part, kind)?)?;
             Ok(())
         }

@@ -6,7 +6,7 @@ use bl_num::Items;
 use std::alloc::{AllocError, Global};
 
 /// A member and what its leaves are made from.
-#[derive(Clone, Copy, Debug)]
+#[derive(Clone, Copy)]
 pub struct Part {
     pub member: u32,
     pub name_number: u16,

@@ -1,34 +1,32 @@
 //! Where the members of a catalogue's structs stand, and what they hold.
 #![tactic(auto)]
 
-mod basics;
+mod basic_types;
 mod check;
+mod check_tables;
 mod components;
 mod copy;
 mod duplicates;
-mod foundation;
 mod graph;
 mod identifiers;
 mod layout;
 mod leaf_counts;
 mod leaf_levels;
 mod leaves;
+mod member_names;
+mod member_parts;
 mod members;
-mod names;
 mod nesting;
 mod offsets;
-mod parts;
+mod pointees;
 mod ranks;
 mod rings;
-mod search;
+mod shape_tables;
 mod shapes;
-mod survey;
+mod struct_search;
 mod tables;
 mod types;
 
 pub use bl_format::{Kind, LayoutFault, Leaf, PathStep, Shape};
 pub use copy::copy_of;
-pub use layout::Layout;
-
-#[cfg(test)]
-mod tests;
+pub use layout::{Layout, RefusedCatalogue};

@@ -2,13 +2,13 @@ ghost use Rattle.std.specs.Prelude.{◌≡◌, ◌≤◌, ◌<◌, ◌^◌, ◌*
 ghost use Rattle.bl_num.specs.Numbers.{pointer_bytes};
 ghost use Rattle.bl_format.specs.Schema.{IsCatalogue, MemberFits};
 ghost use Rattle.bl_layout.specs.Tables.{AreTables};
-ghost use Rattle.bl_layout.specs.Basics.{basic_meant, content_meant};
-ghost use Rattle.bl_layout.specs.Names.{entry_of_name};
+ghost use Rattle.bl_layout.specs.BasicTypes.{basic_meant, content_meant};
+ghost use Rattle.bl_layout.specs.MemberNames.{entry_of_name};
 ghost use Rattle.bl_format.specs.Layout.{name_entry, content_of};
 ghost use Rattle.bl_layout.specs.Sizes.{element_size_of, size_of, basic_in, has_bad_length};
 
-use crate::basics::{Basic, Content, has_length};
-use crate::names::NameEntry;
+use crate::basic_types::{Basic, Content, has_length};
+use crate::member_names::NameEntry;
 use crate::tables::Tables;
 use bl_format::{Catalogue, MemberEntry};
 use bl_num::Width;
@@ -84,7 +84,8 @@ pub fn has_bad_length(own: Content, content: Content, length: u16, pointer: bool
     }
 }
 
-fn basic_in(content: Content) -> Option<Basic>
+/// The basic type that is held.
+pub fn basic_in(content: Content) -> Option<Basic>
     ensures { option_map basic_meant result ≡ basic_in (content_meant content) }
 {
     match content {

@@ -143,17 +143,3 @@ fn deepest_among(row: &[u32], nestings: &[u64]) -> u64 {
     }
     deepest
 }
-
-#[cfg(test)]
-mod tests {
-    use super::*;
-
-    #[test]
-    fn guesses_nestings(rt: HostRuntime) -> Result<(), AllocError> {
-        let alloc = rt.alloc();
-        let links = vec![in alloc; vec![in alloc; 1]?, vec![in alloc; 2]?, Vec::new(alloc)]?;
-        let nestings = guessed_nestings(alloc, &links, &[3, 2, 1])?;
-        assert_eq!(rt; nestings.as_slice(), [3, 2, 1].as_slice());
-        Ok(())
-    }
-}

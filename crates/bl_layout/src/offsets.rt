@@ -2,13 +2,13 @@ ghost use Rattle.std.specs.Prelude.{◌≡◌, ◌≤◌, ◌<◌, ◌+◌, ◌�
 ghost use Rattle.std.specs.List.{list_all};
 ghost use Rattle.bl_format.specs.Schema.{IsCatalogue};
 ghost use Rattle.bl_format.specs.Layout.{first_fault};
-ghost use Rattle.bl_layout.specs.Survey.{IsSurvey};
+ghost use Rattle.bl_layout.specs.CheckTables.{IsCheckTables};
 ghost use Rattle.bl_layout.specs.Tables.{numbered};
 ghost use Rattle.bl_layout.specs.Check.{AreOffsets, IsFirstBack};
 
 use crate::check::{Suspects, first_repeat, struct_offsets};
+use crate::check_tables::CheckTables;
 use crate::rings::first_back;
-use crate::survey::Survey;
 use bl_format::{Catalogue, LayoutFault};
 use bl_num::Width;
 use std::alloc::{AllocError, Global};
@@ -18,11 +18,11 @@ pub fn all_offsets(
     alloc: Global,
     catalogue: &Catalogue,
     width: Width,
-    survey: &Survey,
+    check_tables: &CheckTables,
     marks: &mut [u32],
 ) -> Result<Vec<Vec<u32>>, LayoutFault>
     requires catalogue { IsCatalogue catalogue.now }
-    requires survey { IsSurvey catalogue.now survey.now }
+    requires check_tables { IsCheckTables catalogue.now check_tables.now }
     requires marks { length marks.old ≡ length (numbered catalogue.now.names) }
     requires fresh { All (λ m. m < 1) marks.old }
     ensures offsets { IfOk result (λ offsets. AreOffsets catalogue.now width offsets.items) }
@@ -33,10 +33,10 @@ pub fn all_offsets(
     let structs = catalogue.structs.as_slice().len();
     let mut offsets = Vec::with_capacity(alloc, structs)?;
     for s in 0..structs as u32 {
-        let duplicate = first_repeat(catalogue, &survey.identifiers, s, marks);
-        let back = back_of(alloc, catalogue, survey, s)?;
+        let duplicate = first_repeat(catalogue, &check_tables.identifiers, s, marks);
+        let back = back_of(alloc, catalogue, check_tables, s)?;
         let suspects = Suspects { duplicate, back };
-        offsets.push(struct_offsets(alloc, catalogue, &survey.tables, width, s, suspects)?)?;
+        offsets.push(struct_offsets(alloc, catalogue, &check_tables.tables, width, s, suspects)?)?;
     }
     Ok(offsets)
 }
@@ -45,16 +45,16 @@ pub fn all_offsets(
 fn back_of(
     alloc: Global,
     catalogue: &Catalogue,
-    survey: &Survey,
+    check_tables: &CheckTables,
     s: u32,
 ) -> Result<usize, AllocError>
     requires catalogue { IsCatalogue catalogue.now }
-    requires survey { IsSurvey catalogue.now survey.now }
+    requires check_tables { IsCheckTables catalogue.now check_tables.now }
     requires place { s < length catalogue.now.structs }
     ensures { IfOk result (IsFirstBack catalogue.now s) }
 {
-    let inner = survey.inner.as_slice();
-    let ranks = survey.ranks.as_slice();
+    let inner = check_tables.inner.as_slice();
+    let ranks = check_tables.ranks.as_slice();
     if is_above(&inner[s as usize], ranks, ranks[s as usize]) {
         return Ok(
             catalogue.structs.as_slice()[s as usize]
@@ -63,7 +63,7 @@ fn back_of(
                 .len(),
         );
     }
-    first_back(alloc, catalogue, survey, s)
+    first_back(alloc, catalogue, check_tables, s)
 }
 
 // Whether a rank is above those of some numbers.

@@ -3,13 +3,13 @@ ghost use Rattle.std.specs.Bool.{OnFalse};
 ghost use Rattle.bl_layout.specs.Sizes.{inner_of};
 ghost use Rattle.bl_format.specs.Schema.{IsCatalogue, MemberFits};
 ghost use Rattle.bl_format.specs.Layout.{member_count, leads_back};
-ghost use Rattle.bl_layout.specs.Survey.{IsSurvey};
+ghost use Rattle.bl_layout.specs.CheckTables.{IsCheckTables};
 ghost use Rattle.bl_layout.specs.Graph.{KeepsApart, links_of};
 ghost use Rattle.bl_layout.specs.Check.{IsFirstBack};
 
+use crate::check_tables::CheckTables;
 use crate::graph::inner_struct;
-use crate::search::leads_to;
-use crate::survey::Survey;
+use crate::struct_search::leads_to;
 use bl_format::{Catalogue, MemberEntry};
 use std::alloc::{AllocError, Global};
 
@@ -17,35 +17,35 @@ use std::alloc::{AllocError, Global};
 pub fn first_back(
     alloc: Global,
     catalogue: &Catalogue,
-    survey: &Survey,
+    check_tables: &CheckTables,
     s: u32,
 ) -> Result<usize, AllocError>
     requires catalogue { IsCatalogue catalogue.now }
-    requires survey { IsSurvey catalogue.now survey.now }
+    requires check_tables { IsCheckTables catalogue.now check_tables.now }
     requires place { s < length catalogue.now.structs }
     ensures { IfOk result (IsFirstBack catalogue.now s) }
 {
-    let mut marks = vec![in alloc; false; survey.inner.len()]?;
-    first_back_among(alloc, catalogue, survey, s, marks.as_mut_slice())
+    let mut marks = vec![in alloc; false; check_tables.inner.len()]?;
+    first_back_among(alloc, catalogue, check_tables, s, marks.as_mut_slice())
 }
 
 fn first_back_among(
     alloc: Global,
     catalogue: &Catalogue,
-    survey: &Survey,
+    check_tables: &CheckTables,
     s: u32,
     marks: &mut [bool],
 ) -> Result<usize, AllocError>
     requires catalogue { IsCatalogue catalogue.now }
-    requires survey { IsSurvey catalogue.now survey.now }
+    requires check_tables { IsCheckTables catalogue.now check_tables.now }
     requires place { s < length catalogue.now.structs }
-    requires marks { length marks.old ≡ vec_len survey.now.inner }
-    requires apart { KeepsApart (links_of survey.now.inner.items) marks.old s }
+    requires marks { length marks.old ≡ vec_len check_tables.now.inner }
+    requires apart { KeepsApart (links_of check_tables.now.inner.items) marks.old s }
     ensures { IfOk result (IsFirstBack catalogue.now s) }
 {
     let members = catalogue.structs.as_slice()[s as usize].members.as_slice();
     for (k, member) in members.iter().enumerate() {
-        if member_leads_back(alloc, catalogue, survey, s, *member, marks)? {
+        if member_leads_back(alloc, catalogue, check_tables, s, *member, marks)? {
             return Ok(k);
         }
     }
@@ -56,21 +56,21 @@ fn first_back_among(
 fn member_leads_back(
     alloc: Global,
     catalogue: &Catalogue,
-    survey: &Survey,
+    check_tables: &CheckTables,
     s: u32,
     member: MemberEntry,
     marks: &mut [bool],
 ) -> Result<bool, AllocError>
-    requires survey { IsSurvey catalogue.now survey.now }
+    requires check_tables { IsCheckTables catalogue.now check_tables.now }
     requires place { s < length catalogue.now.structs }
     requires fits { MemberFits catalogue.now member }
-    requires marks { length marks.old ≡ vec_len survey.now.inner }
-    requires apart { KeepsApart (links_of survey.now.inner.items) marks.old s }
+    requires marks { length marks.old ≡ vec_len check_tables.now.inner }
+    requires apart { KeepsApart (links_of check_tables.now.inner.items) marks.old s }
     ensures answer { IfOk result (λ back. back ≡ leads_back catalogue.now s (inner_of catalogue.now member)) }
-    ensures apart { IfOk result (λ back. OnFalse back (KeepsApart (links_of survey.now.inner.items) marks.new s)) }
+    ensures apart { IfOk result (λ back. OnFalse back (KeepsApart (links_of check_tables.now.inner.items) marks.new s)) }
 {
-    match inner_struct(catalogue, &survey.tables, member) {
-        Some(t) => leads_to(alloc, &survey.inner, t, s, marks),
+    match inner_struct(catalogue, &check_tables.tables, member) {
+        Some(t) => leads_to(alloc, &check_tables.inner, t, s, marks),
         None => Ok(false),
     }
 }

@@ -1,17 +1,17 @@
 ghost use Rattle.std.specs.Prelude.{◌≡◌, ◌<◌, ◌*◌, ◌^◌, length};
 ghost use Rattle.bl_format.specs.Schema.{CanBeRead, IsCatalogue, MemberFits};
 ghost use Rattle.bl_format.specs.Layout.{HasLayout, struct_length, member_count, name_entry, shape_of};
-ghost use Rattle.bl_layout.specs.Foundation.{IsFoundation};
-ghost use Rattle.bl_layout.specs.Names.{entry_of_name};
+ghost use Rattle.bl_layout.specs.ShapeTables.{IsShapeTables};
+ghost use Rattle.bl_layout.specs.MemberNames.{entry_of_name};
 ghost use Rattle.bl_layout.specs.Shapes.{IsShort, shape_with};
 ghost use Rattle.bl_layout.specs.Tables.{AreTables};
 
-use crate::foundation::Foundation;
 use crate::graph::inner_struct;
 use crate::leaves::Part;
+use crate::member_names::NameShape;
+use crate::member_parts::{entry_of, part_of};
 use crate::members::name_of;
-use crate::names::NameShape;
-use crate::parts::{entry_of, part_of};
+use crate::shape_tables::ShapeTables;
 use crate::tables::Tables;
 use bl_format::{Catalogue, MemberEntry, Shape};
 use bl_num::Width;
@@ -38,20 +38,20 @@ pub fn struct_length(catalogue: &Catalogue, s: u32) -> u32
 pub fn member_shape(
     catalogue: &Catalogue,
     width: Width,
-    foundation: &Foundation,
+    shape_tables: &ShapeTables,
     s: u32,
     member: u32,
 ) -> Shape
     requires has_layout { HasLayout catalogue.now width }
-    requires foundation { IsFoundation catalogue.now width foundation.now }
+    requires shape_tables { IsShapeTables catalogue.now width shape_tables.now }
     requires s { s < length catalogue.now.structs }
     requires member { member < member_count catalogue.now s }
     ensures { result ≡ shape_of catalogue.now width s member }
 {
     let entry = entry_of(catalogue, s, member);
-    let name = short_name(catalogue, &foundation.tables, entry);
-    let part = part_of(catalogue, width, foundation, s, member, entry);
-    let inner = inner_struct(catalogue, &foundation.tables, entry);
+    let name = short_name(catalogue, &shape_tables.tables, entry);
+    let part = part_of(catalogue, width, shape_tables, s, member, entry);
+    let inner = inner_struct(catalogue, &shape_tables.tables, entry);
     shape_with(name, part, inner)
 }
 

@@ -2,8 +2,8 @@ ghost use Rattle.std.specs.Prelude.{◌≡◌, IfOk};
 ghost use Rattle.bl_format.specs.Schema.{IsCatalogue};
 ghost use Rattle.bl_layout.specs.Tables.{AreTables, numbered};
 
-use crate::basics::Content;
-use crate::names::{NameEntry, name_entries};
+use crate::basic_types::Content;
+use crate::member_names::{NameEntry, name_entries};
 use crate::types::contents;
 use bl_format::Catalogue;
 use std::alloc::{AllocError, Global};
@@ -12,7 +12,7 @@ use std::alloc::{AllocError, Global};
 const MOST_NUMBERED: usize = 65_536;
 
 /// What is known of the names and types of a catalogue that a number may mean.
-#[derive(Debug, Drop)]
+#[derive(Drop)]
 pub struct Tables {
     pub names: Vec<NameEntry>,
     /// What each type holds.

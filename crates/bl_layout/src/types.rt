@@ -1,8 +1,8 @@
 ghost use Rattle.std.specs.Prelude.{◌≡◌, ◌<◌, ◌^◌, All, IfOk, length};
 ghost use Rattle.bl_format.specs.Layout.{basic_named, basic_or_struct};
-ghost use Rattle.bl_layout.specs.Basics.{content_meant, AreContents, IsStructTable};
+ghost use Rattle.bl_layout.specs.BasicTypes.{content_meant, AreContents, IsStructTable};
 
-use crate::basics::{Content, basic_named};
+use crate::basic_types::{Content, basic_named};
 use bl_format::{StructEntry, TypeEntry};
 use std::alloc::{AllocError, Global};
 

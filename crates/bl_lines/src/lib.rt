@@ -12,6 +12,3 @@ pub use bl_commands::{Ending, FileFault, Lack, Quantity};
 pub use endings::{block_ending, head_ending, layout_ending, sdna_ending};
 pub use printed::{fault_line, status_of, summary_line};
 pub use schema::{member_line, schema_line, struct_line};
-
-#[cfg(test)]
-mod tests;

@@ -2,7 +2,7 @@ ghost use Rattle.std.specs.Prelude.{◌≡◌, [], ◌∷◌, IfOk, codes, decim
 ghost use Rattle.std.specs.String.{string_bytes};
 ghost use Rattle.bl_num.specs.Numbers.{pointer_bytes};
 ghost use Rattle.bl_commands.specs.Texts.{line};
-ghost use Rattle.bl_answers.specs.Printed.{order_text, schema_line, struct_line, member_line_by};
+ghost use Rattle.bl_answers.specs.Schema.{order_text, schema_line, struct_line, member_line_by};
 
 use crate::shown::shown_bytes;
 use bl_format::Header;
@@ -42,7 +42,7 @@ fn counts_line(
 }
 
 /// The first line of a catalogue with so many names, types and structs.
-#[tactic(auto, unfolding(bl_answers::specs::Printed::schema_line))]
+#[tactic(auto, unfolding(bl_answers::specs::Schema::schema_line))]
 pub fn schema_line(
     alloc: Global,
     header: &Header,
@@ -61,7 +61,7 @@ pub fn schema_line(
 }
 
 /// The line of struct s.
-#[tactic(auto, unfolding(bl_answers::specs::Printed::struct_line))]
+#[tactic(auto, unfolding(bl_answers::specs::Schema::struct_line))]
 pub fn struct_line(alloc: Global, s: u32, name: &[u8], length: u32) -> Result<Vec<u8>, AllocError>
     ensures { IfOk result (λ line. line.items ≡ struct_line s name.now length) }
 {
@@ -71,7 +71,7 @@ pub fn struct_line(alloc: Global, s: u32, name: &[u8], length: u32) -> Result<Ve
 }
 
 /// The line of a member with this whole name.
-#[tactic(auto, unfolding(bl_answers::specs::Printed::member_line_by))]
+#[tactic(auto, unfolding(bl_answers::specs::Schema::member_line_by))]
 pub fn member_line(
     alloc: Global,
     offset: u32,

@@ -8,6 +8,3 @@ pub use bl_format::{Kind, Leaf, PathStep};
 pub use bl_num::Order;
 pub use bl_selection::{Made, MadeTo, MadeValue};
 pub use leaf::{leaf_bytes, read_leaf, write_leaf};
-
-#[cfg(test)]
-mod tests;

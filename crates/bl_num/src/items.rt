@@ -1,5 +1,6 @@
-ghost use Rattle.std.specs.Prelude.{◌≡◌};
+ghost use Rattle.std.specs.Prelude.{◌≡◌, IfOk};
 
+use std::alloc::{AllocError, Global};
 use std::marker::Model;
 
 /// A list of a public type: a `Vec` that contracts see as the list of its elements, without its
@@ -65,6 +66,13 @@ impl Text {
         Text { bytes }
     }
 
+    /// A copy of some bytes.
+    pub fn from_slice(alloc: Global, bytes: &[u8]) -> Result<Text, AllocError>
+        ensures { IfOk result (λ text. text ≡ bytes.now) }
+    {
+        Ok(Text::from_vec(Vec::from_slice(alloc, bytes)?))
+    }
+
     /// The bytes.
     pub fn as_slice(&self) -> &[u8]
         ensures { result.now ≡ self.now }
@@ -77,26 +85,5 @@ impl Text {
         ensures { result.items ≡ self }
     {
         self.bytes
-    }
-}
-
-#[cfg(test)]
-mod tests {
-    use super::*;
-    use std::alloc::AllocError;
-
-    #[test]
-    fn keep_their_elements(rt: HostRuntime) -> Result<(), AllocError> {
-        let mut numbers = Vec::new(rt.alloc());
-        numbers.push(7u32)?;
-        let items = Items::from_vec(numbers);
-        assert_eq!(rt; items.as_slice(), [7].as_slice());
-        assert_eq!(rt; items.into_vec().len(), 1);
-        let mut bytes = Vec::new(rt.alloc());
-        bytes.push(0xffu8)?;
-        let text = Text::from_vec(bytes);
-        assert_eq!(rt; text.as_slice(), [0xff].as_slice());
-        assert_eq!(rt; text.into_vec().len(), 1);
-        Ok(())
     }
 }

@@ -3,6 +3,8 @@
 
 mod items;
 mod number;
+mod slices;
 
 pub use items::{Items, Text};
 pub use number::{Form, NoMemory, Order, Whole, Width, read_whole, write_whole};
+pub use slices::copy_part;

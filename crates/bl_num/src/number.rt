@@ -80,25 +80,3 @@ pub fn write_whole(order: Order, value: u64, dst: &mut [u8])
         Order::Big => dst.copy_from_slice(&value.to_be_bytes()[8 - len..]),
     }
 }
-
-#[cfg(test)]
-mod tests {
-    use super::*;
-
-    #[test]
-    fn reads_what_it_writes(rt: HostRuntime) {
-        let mut low_first = [0; 4];
-        write_whole(Order::Little, 0x0102_0304_8506_0708, &mut low_first);
-        assert_eq!(rt; low_first, [0x08, 0x07, 0x06, 0x85]);
-        assert_eq!(rt; read_whole(Order::Little, &low_first), 0x8506_0708);
-        let mut high_first = [0; 8];
-        write_whole(Order::Big, 0x8102_0304_0506_0708, &mut high_first);
-        assert_eq!(rt;
-            high_first,
-            [0x81, 0x02, 0x03, 0x04, 0x05, 0x06, 0x07, 0x08]
-        );
-        assert_eq!(rt; read_whole(Order::Big, &high_first), 0x8102_0304_0506_0708);
-        assert_eq!(rt; read_whole(Order::Big, &[0x01, 0x02]), 0x0102);
-        assert_eq!(rt; read_whole(Order::Little, &[0xff]), 0xff);
-    }
-}

@@ -2,7 +2,7 @@ ghost use Rattle.std.specs.Prelude.{◌≡◌, ◌<◌, ◌^◌, None};
 ghost use Rattle.bl_format.specs.Graph.{Target, Naming};
 ghost use Rattle.bl_selection.specs.Written.{address_of};
 
-/// What addresses become in the output.
+/// What addresses become in the output: Blender's old pointers as new ones.
 pub trait Images {
     /// What an address names in the output.
     ghost names: { Self → Naming Target };

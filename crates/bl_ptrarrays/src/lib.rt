@@ -10,6 +10,3 @@ pub use bl_format::{RawKind, View};
 pub use carry::{carry_raw, raw_length};
 pub use images::Images;
 pub use kinds::{view_of, views};
-
-#[cfg(test)]
-mod tests;

@@ -1,5 +1,5 @@
 -- The blocks of files: what is read, what is wrong with others, and which files are accepted.
-use Rattle.std.proofs.Common.{◌≡◌, arith, ℕ, List, [], ◌∷◌, ◌++◌, Result, Ok, Err, Some, None, Option, refl}
+use Rattle.std.proofs.Common.{◌≡◌, arith, ℕ, List, [], ◌∷◌, ◌++◌, Result, Ok, Err, Some, None, Option, refl, inl}
 use Rattle.std.specs.Prelude.{codes, map, take, drop}
 use Rattle.bl_num.specs.declared.number.Order.TheVariants.{Big}
 use Rattle.bl_format.specs.declared.file.Head.{Head}
@@ -144,7 +144,7 @@ accepted = record {
 header_alone : IsRefused (codes "BLENDER-v405") (InBlocks (Truncated 12))
 unfolding blocks
 header_alone =
-    (header_8 405, record { header = refl; blocks = []; end = 12; blocks_stand = refl; fails = refl })
+    (header_8 405, inl (record { header = refl; blocks = []; end = 12; blocks_stand = refl; fails = refl }, omega arith))
 
 no_catalogue : IsRefused (codes "BLENDER-v405ENDB") NoCatalogue
 unfolding blocks
@@ -152,6 +152,7 @@ no_catalogue = record {
   header = header_8 405;
   blocks = [];
   reads = record { header = refl; end = 12; blocks_stand = refl; ends = refl };
+  few = omega arith;
   fact = refl;
 }
 
@@ -165,6 +166,7 @@ second_catalogue = record {
   header = header_8 405;
   blocks = catalogue_head 12 ∷ catalogue_head 428 ∷ [];
   reads = record { header = refl; end = 844; blocks_stand = (refl, (refl, refl)); ends = refl };
+  few = omega arith;
   fact = refl;
 }
 

@@ -19,4 +19,6 @@ pub mod DraftsOfFiles
 pub mod PrintedTexts
 pub mod Queries
 pub mod CommandWords
+pub mod FinishedWords
 pub mod MergesRefused
+pub mod NullGiven

@@ -10,7 +10,10 @@ use Rattle.bl_commands.specs.declared.ending.Ending.{Ending}
 use Rattle.bl_commands.specs.declared.ending.Ending.TheVariants.{BadFile, Missing, FloatCast}
 use Rattle.bl_commands.specs.declared.ending.FileFault.TheVariants.{StrayPlaceholder}
 use Rattle.bl_commands.specs.declared.ending.Lack.TheVariants.{NoIdStruct, NoName, NoDatablock, MissingDatablock, NoStruct}
-use Rattle.bl_answers.specs.Refusals.{missing_datablock, append_no_struct, link_no_struct, resolve_no_struct, append_too_long, link_too_long, LongName, file_refusal, append_refusal, link_refusal, resolve_refusal}
+use Rattle.bl_answers.specs.Resolve.{missing_datablock, resolve_no_struct, resolve_refusal}
+use Rattle.bl_answers.specs.Append.{append_no_struct, append_too_long, append_refusal}
+use Rattle.bl_answers.specs.Link.{link_no_struct, link_too_long, link_refusal}
+use Rattle.bl_answers.specs.Merges.{LongName, file_refusal}
 use Rattle.bl_rows.proofs.Evaluation.{merging}
 use Rattle.bl_rows.proofs.Literals.{code, catalogue, file, head, header_8}
 use Rattle.bl_rows.proofs.Example.{example_8, rigs, with_float, without_mesh}

@@ -13,7 +13,10 @@ use Rattle.bl_commands.specs.declared.ending.FileFault.TheVariants.{Overrun}
 use Rattle.bl_commands.specs.declared.ending.Lack.TheVariants.{MissingDatablock, NotStruct}
 use Rattle.bl_commands.specs.declared.ending.Quantity.TheVariants.{BlockBytes}
 use Rattle.bl_commands.specs.Texts.{shown_bytes, shown_code, value_text, summary_line, row_text, plain_form, tab_form, fault_line, head_ending}
-use Rattle.bl_answers.specs.Printed.{struct_line, member_line_by, struct_lines, fate_lines, list_text, node_rows, graph_rows, dump_text}
+use Rattle.bl_answers.specs.Schema.{struct_line, member_line_by, struct_lines}
+use Rattle.bl_answers.specs.Fates.{fate_lines}
+use Rattle.bl_answers.specs.ListIds.{list_text}
+use Rattle.bl_answers.specs.Dump.{node_rows, graph_rows, dump_text}
 use Rattle.bl_rows.proofs.Evaluation.{leaves, graphs, linking}
 use Rattle.bl_rows.proofs.Literals.{hex, lines}
 use Rattle.bl_rows.proofs.Example.{example_8, example_4, one_object, three_objects, with_changes}

@@ -5,7 +5,7 @@ use Rattle.std.specs.Fmt.{digits}
 use Rattle.bl_format.specs.Graph.{graph}
 use Rattle.bl_selection.specs.Written.{written_form}
 use Rattle.bl_linking.specs.References.{full_name, references, closure_of, with_users}
-use Rattle.bl_answers.specs.Printed.{list_text}
+use Rattle.bl_answers.specs.ListIds.{list_text}
 use Rattle.bl_rows.proofs.Evaluation.{graphs, linking, writing}
 use Rattle.bl_rows.proofs.Literals.{header_4, lines}
 use Rattle.bl_rows.proofs.Example.{example_8, three_objects, rigs}

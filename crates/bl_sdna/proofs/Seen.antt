@@ -18,7 +18,7 @@ use Rattle.bl_format.specs.declared.catalogue.SdnaFault.{SdnaFault}
 use Rattle.bl_format.specs.declared.catalogue.SdnaFault.TheVariants.{TwoTypes, TwoStructs, NoMemory}
 use Rattle.bl_format.specs.Words.{is_one_of}
 use Rattle.bl_format.specs.Schema.{◌>>=◌, Reading, Fails, ensure, count_at, index_at, name_at, many_at, member_at, type_names_at, structs_at}
-use Rattle.bl_sdna.specs.Parts.{has_name, type_name_at, members_at, struct_at}
+use Rattle.bl_sdna.specs.Lists.{has_name, type_name_at, members_at, struct_at}
 use Rattle.bl_sdna.proofs.Many.{with_front, regroup}
 
 module _ {A K : Type 0} (one : (K → Bool) → ℕ → Reading A) (is_of : K → A → Bool) where

@@ -2,14 +2,16 @@
 //! written, and searched by name.
 #![tactic(auto)]
 
+mod lists;
 mod lookup;
+mod names;
 mod parse;
-mod parts;
 mod place;
 mod text;
 mod write;
 
 pub use bl_format::{Catalogue, MemberEntry, SdnaFault, StructEntry, TypeEntry};
 pub use lookup::{struct_named, type_named};
+pub use names::{member_name, member_type_name, struct_name};
 pub use parse::parse_catalogue;
 pub use write::write_catalogue;

@@ -4,7 +4,7 @@ use Rattle.std.proofs.Common.{◌≡◌, ℕ, zero, suc, ◌+◌, ◌<◌, Bool,
 use Rattle.std.specs.Prelude.{◌==◌, ◌||◌, map}
 use Rattle.std.specs.List.{enumerate_from}
 use Rattle.std.proofs.Math.Dec.{eqb-suc-zero}
-use Rattle.std.proofs.lemmas.List.{length-append, length-map, get_or-map}
+use Rattle.std.proofs.lemmas.List.{length-map, get_or-map}
 use Rattle.std.proofs.lemmas.List.FromFn.{length-enumerate_from, get_or-enumerate_from}
 use Rattle.bl_format.specs.declared.catalogue.Catalogue.{Catalogue}
 use Rattle.bl_format.specs.declared.raw.View.{View}
@@ -12,6 +12,7 @@ use Rattle.bl_format.specs.Words.{numbers_below}
 use Rattle.bl_format.specs.Layout.{struct_name, struct_number}
 use Rattle.bl_format.specs.Nodes.{File, group_of, is_id}
 use Rattle.bl_format.specs.Graph.{Fields, Node, Struct, Cell, fields, node_elements}
+pub use Rattle.bl_format.proofs.NumbersBelow.{length-numbers_below}
 use Rattle.bl_selection.specs.declared.draft.Draft.{Draft}
 use Rattle.bl_selection.specs.declared.draft.Entry.{Entry}
 use Rattle.bl_selection.specs.declared.draft.Entry.TheVariants as entries
@@ -26,10 +27,6 @@ if_both P false x y p q = q
 abbrev pub IsItsName : Catalogue → Entry → Type 0
 IsItsName c (entries.Made m) = struct_number c (struct_name c m.s) ≡ m.s
 IsItsName c x = Unit {0}
-
-pub length-numbers_below : (n : ℕ) → length (numbers_below n) ≡ n
-length-numbers_below zero = refl
-length-numbers_below (suc n) = omega (arith, length-append (numbers_below n) (n ∷ []), length-numbers_below n)
 
 module _ (files : List File) (d : Draft) (views : List View) where
   pub entry_node-code : (e : ℕ) (x : Entry) → node_code (entry_node files d views e x) ≡ entry_code files x

@@ -37,14 +37,15 @@ use Rattle.bl_selection.proofs.RebuiltStands.{NodeStands, payload_len, holds_ele
 
 -- ---- elements of a struct
 
-value_fills : (kind : Kind) (size : ℕ) (names : Naming Target) (order : Order) (bytes : List ℕ) → length bytes ≡ size → FillsPlace size (value_by kind names order bytes)
+-- what is read of so many bytes is written in as many
+pub value_fills : (kind : Kind) (size : ℕ) (names : Naming Target) (order : Order) (bytes : List ℕ) → length bytes ≡ size → FillsPlace size (value_by kind names order bytes)
 value_fills (kinds.Whole whole) size names order bytes long = tt
 value_fills (kinds.Bits n) size names order bytes long = tt
 value_fills (kinds.Pointer depth t) size names order bytes long = tt
 value_fills kinds.Opaque size names order bytes long = long
 
 -- what holds of each element of each leaf holds of all leaf elements
-all_elements : (P : Slot → Type 0) (xs : List NamedLeaf) → All (λ x. (k : ℕ) → k < x.count → P (x, k)) xs → All P (slots xs)
+pub all_elements : (P : Slot → Type 0) (xs : List NamedLeaf) → All (λ x. (k : ℕ) → k < x.count → P (x, k)) xs → All P (slots xs)
 all_elements P [] all = All-nil P
 all_elements P (x ∷ xs) all =
     All-append P (map (λ k. (x, k)) (numbers_below x.count)) (slots xs)
@@ -52,7 +53,8 @@ all_elements P (x ∷ xs) all =
     (All-weaker (λ k. k < x.count) (λ k. P (x, k)) (All-head (λ x. (k : ℕ) → k < x.count → P (x, k)) x xs all) (numbers_below x.count) (numbers_below-lt x.count)))
     (all_elements P xs (All-tail (λ x. (k : ℕ) → k < x.count → P (x, k)) x xs all))
 
-fields_fill : (value : NamedLeaf → ℕ → Value Target) (es : List Slot) → All (λ e. FillsPlace e.0.size (value e.0 e.1)) es → All Fills (zip es (map (field_of value) es))
+-- values that fill their places, leaf element by leaf element, fill them all
+pub fields_fill : (value : NamedLeaf → ℕ → Value Target) (es : List Slot) → All (λ e. FillsPlace e.0.size (value e.0 e.1)) es → All Fills (zip es (map (field_of value) es))
 fields_fill value [] all = All-nil Fills
 fields_fill value (e ∷ es) all =
     All-cons Fills (e, field_of value e) (zip es (map (field_of value) es))

@@ -1,7 +1,8 @@
 use bl_format::{Catalogue, Header};
 use bl_num::{Items, Text};
 
-/// What becomes of a member under another catalogue, whose member of the same key meets it.
+/// What becomes of a member under another catalogue, whose member of the same key meets it (a step
+/// of Blender's `DNA_struct_reconstruct`).
 #[derive(Clone, Copy, Debug, PartialEq, Eq)]
 pub enum Fate {
     Kept,
@@ -17,7 +18,7 @@ pub enum Fate {
     FloatCast,
 }
 
-/// A struct node that is made here. It has one element, and what isn't given is zero.
+/// A struct node that is made here: a `BHead` with `nr` 1. What isn't given is zero.
 #[derive(Debug, Drop)]
 pub struct Made {
     pub code: [u8; 4],
@@ -26,7 +27,8 @@ pub struct Made {
     pub values: Items<MadeValue>,
 }
 
-/// What a leaf's element is made to: the low bits of a number, or a pointer to an entry.
+/// What a leaf's element is made to: the low bits of a number, a pointer to an entry, or null, which
+/// is the number 0 of a pointer.
 #[derive(Clone, Copy, Debug, PartialEq, Eq)]
 pub enum MadeTo {
     Number(u64),
@@ -42,8 +44,8 @@ pub struct MadeValue {
     pub value: MadeTo,
 }
 
-/// A node of an output: one of a source file, by the numbers of both, a made struct node, or a made
-/// raw node.
+/// A node of an output, which becomes a `BHead` and its payload: one of a source file, by the numbers
+/// of both, a made struct node, or a made raw node.
 #[derive(Debug, Drop)]
 pub enum Entry {
     Source { file: u32, node: u32 },
@@ -51,7 +53,8 @@ pub enum Entry {
     Raw { code: [u8; 4], bytes: Text },
 }
 
-/// A value that replaces the one of a leaf's element, in one element of an entry.
+/// A value that replaces the one of a leaf's element, in one element of an entry. It is none of
+/// Blender's library overrides.
 #[derive(Clone, Copy, Debug, PartialEq, Eq)]
 pub struct Override {
     pub entry: u32,
@@ -62,13 +65,15 @@ pub struct Override {
     pub value: MadeTo,
 }
 
-/// A selection: which nodes an output has, under which header and catalogue.
+/// A selection (near to Blender's partial write): which nodes an output has, under which header and
+/// catalogue.
 #[derive(Debug, Drop)]
 pub struct Draft {
     pub header: Header,
     pub catalogue: Catalogue,
     pub entries: Items<Entry>,
-    /// For each source file and node 1 more than the number of the entry that stands for it, or 0.
+    /// For each source file and node 1 more than the number of the entry that stands for it, or 0:
+    /// what an old-to-new map (`OldNewMap`) leads to.
     pub images: Items<Items<u32>>,
     pub overrides: Items<Override>,
 }

@@ -1,5 +1,5 @@
 -- What the counts of a shelf or a sink say of its answers.
-use Rattle.std.specs.Prelude.{ℕ, ◌+◌, ◌^◌, ◌-◌, ◌≤◌, min, Result, Ok, Err, IfErr, ⊤}
+use Rattle.std.specs.Prelude.{◌≡◌, ℕ, ◌+◌, ◌^◌, ◌-◌, ◌≤◌, min, Result, Ok, Err, ⊤}
 use Rattle.bl_shelf.specs.declared.shelf.ShelfFault.{ShelfFault}
 use Rattle.bl_shelf.specs.declared.shelf.ShelfFault.TheVariants.{Absent, Failed, NoMemory}
 use Rattle.bl_shelf.specs.declared.sink.SinkFault.{SinkFault}
@@ -19,21 +19,21 @@ HasRisen Absent faults faults' misses misses' = Rose misses misses'
 HasRisen Failed faults faults' misses misses' = Rose faults faults'
 HasRisen NoMemory faults faults' misses misses' = ⊤
 
--- no count of a shelf falls, and one that an answer blames has risen
-pub record HasCause {T : Type 0} (faults faults' misses misses' : ℕ) (result : Result T ShelfFault) : Type 0 where
-  pub faults_grow : faults ≤ faults'
-  pub misses_grow : misses ≤ misses'
-  pub blamed : IfErr result (λ fault. HasRisen fault faults faults' misses misses')
+-- after Ok no count of a shelf has risen; after a fault none has fallen, and the one that it blames has risen
+abbrev pub HasCause : {T : Type 0} → ℕ → ℕ → ℕ → ℕ → Result T ShelfFault → Type 0
+HasCause faults faults' misses misses' (Ok _) = (faults' ≡ faults) × (misses' ≡ misses)
+HasCause faults faults' misses misses' (Err fault) =
+    (faults ≤ faults') × (misses ≤ misses') × HasRisen fault faults faults' misses misses'
 
 -- the count that a sink's fault blames has risen
 abbrev pub SinkHasRisen : SinkFault → ℕ → ℕ → Type 0
 SinkHasRisen sink.Failed faults faults' = Rose faults faults'
 SinkHasRisen sink.NoMemory faults faults' = ⊤
 
--- a sink's count doesn't fall, and has risen where an answer blames it
-pub record HasSinkCause {T : Type 0} (faults faults' : ℕ) (result : Result T SinkFault) : Type 0 where
-  pub faults_grow : faults ≤ faults'
-  pub blamed : IfErr result (λ fault. SinkHasRisen fault faults faults')
+-- after Ok a sink's count hasn't risen; after a fault it hasn't fallen, and has risen where the fault blames it
+abbrev pub HasSinkCause : {T : Type 0} → ℕ → ℕ → Result T SinkFault → Type 0
+HasSinkCause faults faults' (Ok _) = faults' ≡ faults
+HasSinkCause faults faults' (Err fault) = (faults ≤ faults') × SinkHasRisen fault faults faults'
 
 -- the faults of a shelf after this answer, one more where it is `Failed`
 abbrev pub faults_after : {T : Type 0} → Result T ShelfFault → ℕ → ℕ

@@ -1,5 +1,8 @@
+pub mod Calls
 pub mod Causes
 pub mod Contents
+pub mod Frames
+pub mod History
 pub mod Memory
 pub mod MemorySink
 pub mod Meter

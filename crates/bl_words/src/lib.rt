@@ -50,6 +50,8 @@ fn convert_of(alloc: Global, words: &[String]) -> Result<Option<Command>, NoMemo
                     like: None,
                     width: None,
                     order: None,
+                    head: None,
+                    renames: None,
                 },
             }))
         }
@@ -66,51 +68,5 @@ fn schema_of(alloc: Global, words: &[String]) -> Result<Option<Command>, NoMemor
             input: Word::from_str(alloc, input.as_str())?,
         })),
         _ => Ok(None),
-    }
-}
-
-#[cfg(test)]
-mod tests {
-    use super::*;
-
-    // Whether words spell a conversion of a file to another, where they spell a command.
-    fn convert(
-        alloc: Global,
-        words: &[&str],
-        from: &str,
-        to: &str,
-    ) -> Result<Option<bool>, NoMemory> {
-        let mut owned = Vec::new(alloc);
-        for word in words {
-            owned.push(String::from_str(alloc, word)?)?;
-        }
-        let spelled = command_of(alloc, &owned)?;
-        match &spelled {
-            Some(Command::Convert { input, out, .. }) => {
-                Ok(Some(input.as_str() == from && out.as_str() == to))
-            }
-            Some(_) => Ok(Some(false)),
-            None => Ok(None),
-        }
-    }
-
-    #[test]
-    fn converts(rt: HostRuntime) -> Result<(), NoMemory> {
-        for (words, want) in [
-            (["convert", "a", "b"].as_slice(), Some(true)),
-            (&["convert", "b", "a"], Some(false)),
-            (&["schema", "a"], Some(false)),
-            (&["convert", "a", "b", "--width", "5"], None),
-            (&[], None),
-        ] {
-            assert_eq!(rt; convert(rt.alloc(), words, "a", "b")?, want);
-        }
-        Ok(())
-    }
-
-    #[test]
-    fn names_files(rt: HostRuntime) {
-        assert!(rt; is_file_word("a.blend"));
-        assert!(rt; !is_file_word("a.blend.bl-part"));
     }
 }

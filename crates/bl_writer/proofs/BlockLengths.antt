@@ -17,6 +17,7 @@ use Rattle.bl_selection.specs.Selection.{no_head}
 use Rattle.bl_selection.specs.Written.{block_written}
 use Rattle.bl_writer.specs.declared.output.Output.{Output}
 use Rattle.bl_writer.specs.Outputs.{IsOutput, output_head, output_kind, written_length, output_length, outputs_length}
+use Rattle.bl_writer.specs.Lengths.{blocks_length}
 use Rattle.bl_writer.specs.Rendering.{end_written}
 use Rattle.bl_writer.proofs.NodeFacts.{written_length-le}
 
@@ -45,7 +46,7 @@ output_length-lt o size k is lt =
 
 -- so all blocks together are short too
 pub outputs_length-le : (o : Output) (size k : ℕ) → IsOutput o size → k ≤ length o.nodes.now → outputs_length o k ≤ k * 2 ^ 32
-unfolding outputs_length
+unfolding blocks_length
 outputs_length-le o size zero is le = omega arith
 outputs_length-le o size (suc k) is le =
     let before : outputs_length o k ≤ k * 2 ^ 32 = outputs_length-le o size k is (omega (arith, le)) in
@@ -53,12 +54,12 @@ outputs_length-le o size (suc k) is le =
     omega (arith, before, own)
 
 pub outputs_length-more : (o : Output) (k : ℕ) → outputs_length o (k + 1) ≡ outputs_length o k + output_length o k
-unfolding outputs_length
+unfolding blocks_length
 outputs_length-more o k = let next : k + 1 ≡ suc k = omega arith in ap (outputs_length o) next
 
 -- the first blocks are no longer than all
 pub outputs_length-mono : (o : Output) (k n : ℕ) → k ≤ n → outputs_length o k ≤ outputs_length o n
-unfolding outputs_length
+unfolding blocks_length
 outputs_length-mono o k zero le = let same : k ≡ 0 = omega (arith, le) in rw same (omega arith)
 outputs_length-mono o k (suc n) le = elim (cases_lt n k) [
   | inl above ↦ (let same : k ≡ suc n = omega (arith, le, above) in rw same (omega arith))
@@ -92,18 +93,14 @@ length-end_written h =
     let at_least : 20 ≤ head_size h = head_size-ge h in
     length-append (codes "ENDB") (zeros (head_size h - 4)) ∙ omega (arith, at_least, length-replicate {A = ℕ} (head_size h - 4) 0)
 
--- the end is the first bytes of the longest end, as many as a head has
-pub end_written-is : (h : Header) (n : ℕ) → n ≡ head_size h → take n (codes "ENDB" ++ zeros 20) ≡ end_written h
-end_written-is h n is = ap (λ m. take m (codes "ENDB" ++ zeros 20)) is ∙ by h.width
-  where
-    by : (w : Width) → take (16 + pointer_bytes w) (codes "ENDB" ++ zeros 20) ≡ codes "ENDB" ++ zeros (16 + pointer_bytes w - 4)
-    by Four = refl
-    by Eight = refl
+-- so is what is written as an end in as many bytes
+pub end_written-is : (h : Header) (n : ℕ) (text : List ℕ) → n ≡ head_size h → text ≡ codes "ENDB" ++ zeros (n - 4) → text ≡ end_written h
+end_written-is h n text size is = is ∙ ap (λ m. codes "ENDB" ++ zeros (m - 4)) size
 
 -- ---- measures
 
 pub outputs_length-none : (o : Output) → 0 ≡ outputs_length o 0
-unfolding outputs_length
+unfolding blocks_length
 outputs_length-none o = refl
 
 -- the most of the first k numbers, and of one more

@@ -17,12 +17,18 @@ use Rattle.bl_file.specs.Opening.{file_in}
 use Rattle.bl_file.specs.Outlines.{IsNodeIn, ArePairsLong, IsSound, StandsFor}
 use Rattle.bl_file.specs.Seen.{Namings}
 use Rattle.bl_draft.specs.Own.{IsOwnDraft, own_names, outlined, entry_head, entry_heads, entry_kinds}
+use Rattle.bl_draft.specs.Whole.{IsOfAll}
 use Rattle.bl_writer.specs.declared.output.Output.{Output}
-use Rattle.bl_writer.specs.Outputs.{IsOutput, ArePlans, block_bytes, output_form, selection_form}
+use Rattle.bl_writer.specs.Outputs.{IsOutput, IsFormSize, ArePlans, block_bytes, output_form, output_size, selection_form}
+use Rattle.bl_writer.specs.Lengths.{size_by}
 use Rattle.bl_writer.specs.Rendering.{end_written, staged_as}
 use Rattle.bl_writer.proofs.NumberedTexts.{texts-same}
 use Rattle.bl_writer.proofs.Renderings.{IsHeldAnd-both}
 use Rattle.bl_writer.proofs.SelectionForm.{selection_form-parts}
+
+-- a draft of all of so many nodes is one of as many
+pub of_all_nodes : (d : Draft) (n m : ℕ) → IsOfAll n d → n ≡ m → IsOfAll m d
+of_all_nodes d n m all same = subst (λ k. IsOfAll k d) same all
 
 -- an output of few nodes of an opened file can be written
 pub output_of : (o : Outline) (heads : List Head) (out : Output) (size : ℕ) → IsSound o → out.header ≡ o.header → out.layout.now ≡ o.layout
@@ -57,10 +63,10 @@ module _ (o : Outline) (d : Draft) (out : Output) (names : Namings) (sound : IsS
       ∙ (λ i. text (flat_map (λ e. block_bytes (own_names (outlined o []) d e) out b e) (numbers_below (length d.entries))) (header i) (layout i))
       ∙ sym (selection_form-parts b o d out stands sound own header layout nodes kinds)
 
-  module _ (t t1 : Option Told) (file file1 : List ℕ) (Agrees : List ℕ → Type 0) (told : t1 ≡ t) (name_is : file1 ≡ file)
-      (held : IsHeldAnd t file (λ b. Agrees b × StandsFor b o)) (kinds : IsHeldAnd t file (λ b. out.kinds.now ≡ entry_kinds (outlined o b) d)) where
+  module _ (t t1 : Option Told) (file file1 : List ℕ) (told : t1 ≡ t) (name_is : file1 ≡ file)
+      (stands : IsHeldAnd t file (λ b. StandsFor b o)) (kinds : IsHeldAnd t file (λ b. out.kinds.now ≡ entry_kinds (outlined o b) d)) where
     forms : IsHeldAnd t file (λ b. output_form names out b ≡ selection_form (file_in b ∷ []) d)
-    forms = IsHeldAnd-both t file _ _ _ (λ b known are. form_is b known.1 are) held kinds
+    forms = IsHeldAnd-both t file _ _ _ (λ b known are. form_is b known are) stands kinds
 
     here : (Such : Option Told → List ℕ → Type 0) → IsHeldAnd t1 file1 (Such t1) → IsHeldAnd t file (Such t)
     here Such is = subst (λ (x : Option Told). IsHeldAnd x file (Such x)) told (subst (λ (n : List ℕ). IsHeldAnd t1 n (Such t1)) name_is is)
@@ -77,3 +83,8 @@ module _ (o : Outline) (d : Draft) (out : Output) (names : Namings) (sound : IsS
         → IsHeldAnd t file (λ b. n ≡ length (selection_form (file_in b ∷ []) d))
     draft_bytes n bytes =
         IsHeldAnd-both t file _ _ _ (λ b is same. is ∙ ap (λ (x : List ℕ). length x) same) (here (λ x b. n ≡ length (output_form names out b)) bytes) forms
+
+  -- over any shelf it has the bytes that the heads and some kinds give
+  pub draft_size : (n : ℕ) → n ≡ output_size out → IsFormSize o d n
+  draft_size n is =
+      (out.kinds.now, is ∙ (λ i. size_by (header i) (layout i).catalogue (nodes i) out.kinds.now))

@@ -1,11 +1,8 @@
 -- What is held and such in two ways, and what is read of it.
-use Rattle.std.proofs.Common.{◌≡◌, ℕ, ◌≤◌, List, length, take, drop, Option, Some, None, option_map, Result, Ok, Err, sym, subst, arith}
+use Rattle.std.proofs.Common.{◌≡◌, ℕ, List, length, take, drop, Option, Some, None, option_map, sym, subst}
 use Rattle.std.specs.Prelude.{IsSomeAnd}
-use Rattle.bl_shelf.specs.declared.shelf.ShelfFault.{ShelfFault}
-use Rattle.bl_shelf.specs.declared.shelf.ShelfFault.TheVariants.{Absent, Failed, NoMemory}
 use Rattle.bl_shelf.specs.Told.{Told, bytes_under}
 use Rattle.bl_shelf.specs.Contents.{AreBytesAt}
-use Rattle.bl_shelf.specs.Causes.{Rose, HasRisen, HasCause}
 use Rattle.bl_file.specs.Held.{IsHeldAnd}
 use Rattle.bl_format.specs.Words.{part}
 
@@ -47,25 +44,3 @@ pub held_part_same : (told told' : Option Told) (name name' : List ℕ) (at : �
     → told' ≡ told → name' ≡ name → AreBytesAt told' name' at dst → IsHeldAnd told name (λ b. dst ≡ part b at (length dst))
 held_part_same told told' name name' at dst same also are =
     held_part told name at dst (subst (λ (n : List ℕ). AreBytesAt told n at dst) also (subst (λ (t : Option Told). AreBytesAt t name' at dst) same are))
-
-rose_before : (a b c : ℕ) → a ≤ b → Rose b c → Rose a c
-rose_before a b c le rose = omega (arith, le, rose)
-
-risen_before : (fault : ShelfFault) (f f1 f2 m m1 m2 : ℕ) → f ≤ f1 → m ≤ m1 → HasRisen fault f1 f2 m1 m2 → HasRisen fault f f2 m m2
-risen_before Absent f f1 f2 m m1 m2 le more risen = rose_before m m1 m2 more risen
-risen_before Failed f f1 f2 m m1 m2 le more risen = rose_before f f1 f2 le risen
-risen_before NoMemory f f1 f2 m m1 m2 le more risen = tt
-
--- an answer with a cause after some calls has it from their start on
-pub cause_later : {T : Type 0} (f f1 f2 m m1 m2 : ℕ) (result : Result T ShelfFault)
-    → f ≤ f1 → m ≤ m1 → HasCause f1 f2 m1 m2 result → HasCause f f2 m m2 result
-cause_later f f1 f2 m m1 m2 (Ok x) le more cause = record {
-  faults_grow = let grow = cause.faults_grow in omega (arith, le, grow);
-  misses_grow = let grow = cause.misses_grow in omega (arith, more, grow);
-  blamed = tt;
-}
-cause_later f f1 f2 m m1 m2 (Err fault) le more cause = record {
-  faults_grow = let grow = cause.faults_grow in omega (arith, le, grow);
-  misses_grow = let grow = cause.misses_grow in omega (arith, more, grow);
-  blamed = risen_before fault f f1 f2 m m1 m2 le more cause.blamed;
-}

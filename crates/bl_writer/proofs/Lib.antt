@@ -11,10 +11,11 @@ pub mod StepOrder
 pub mod Rewrites
 pub mod PlanLaws
 pub mod Renderings
+pub mod Pushing
+pub mod Stagings
 pub mod OutputForm
 pub mod BlockLengths
 mod DraftForm
-mod SecondGroup
 mod FaultLemmas
 pub mod NumberedTexts
 pub mod SelectionKinds

@@ -10,7 +10,8 @@ use Rattle.bl_shelf.specs.Told.{Told, push_in}
 use Rattle.bl_file.specs.Seen.{Namings}
 use Rattle.bl_writer.specs.declared.output.Output.{Output}
 use Rattle.bl_writer.specs.Outputs.{block_bytes, output_length, outputs_length, output_form}
-use Rattle.bl_writer.specs.Rendering.{Adds, AddsOf, end_written, form_length}
+use Rattle.bl_writer.specs.Lengths.{form_length}
+use Rattle.bl_writer.specs.Rendering.{Adds, AddsOf, end_written}
 use Rattle.bl_writer.proofs.BlockLengths.{outputs_length-more}
 use Rattle.bl_writer.proofs.ElementCopies.{flat_map-next}
 use Rattle.bl_writer.proofs.Renderings.{adds_all, adds_more_of}

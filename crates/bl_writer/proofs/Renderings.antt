@@ -1,7 +1,7 @@
 -- What is staged of a text that is added piece by piece.
 use Rattle.std.proofs.Common.{◌≡◌, ◌≤◌, ℕ, ◌+◌, ◌-◌, List, [], ◌++◌, length, take, Option, Some, None, option_map, refl, sym, ap, subst, ◌∙◌, append_assoc, arith}
 use Rattle.std.specs.Prelude.{IsSomeAnd}
-use Rattle.std.proofs.lemmas.List.{append-nil, length-append, length-take, take_at}
+use Rattle.std.proofs.lemmas.List.{append-nil, length-append, take_at}
 use Rattle.bl_shelf.specs.Told.{Told, Staged, Held, bytes_under, held_of, push_in}
 use Rattle.bl_file.specs.Held.{IsHeldAnd}
 use Rattle.bl_writer.specs.Rendering.{Adds, AddsOf, HasRoom, Takes}
@@ -134,51 +134,3 @@ pub takes_own : (room room1 : Option ℕ) (filled at n : ℕ) → Takes room fil
 takes_own room room1 filled at n takes = record {
   left = λ rest full. takes.left (n + rest) (full ∙ ap Some (omega arith)) ∙ ap Some (omega arith);
 }
-
--- ---- the last push
-
--- what is held back can be pushed where there is just this room
-pub room_push : (room : Option ℕ) (mark : ℕ) (buffer : List ℕ) → room ≡ Some mark → IsSomeAnd room (λ left. length (take mark buffer) ≤ left)
-room_push room mark buffer is = rw is (omega (arith, length-take mark buffer))
-
--- and no room is left
-pub room_pushed : (room room' : Option ℕ) (mark : ℕ) (buffer : List ℕ) → mark ≤ length buffer → room ≡ Some mark
-    → room' ≡ option_map (λ left. left - length (take mark buffer)) room → room' ≡ Some 0
-room_pushed room room' mark buffer le is pushed =
-    pushed ∙ ap (option_map (λ left. left - length (take mark buffer))) is ∙ ap Some (omega (arith, le, length-take mark buffer))
-
--- ---- four pieces
-
--- room for just four pieces is room for the first
-pub room_for_first : (room : Option ℕ) (n a b c d : ℕ) → room ≡ Some (a + b + c + d) → n ≡ a → HasRoom room 0 n
-room_for_first room n a b c d full is = rw full (omega (arith, is))
-
-module _ (room room1 : Option ℕ) (mark1 n a b c d : ℕ) (full : room ≡ Some (a + b + c + d)) (is : n ≡ a) (first : Takes room 0 n room1 mark1) where
-  has : HasRoom room 0 (a + b + c + d)
-  has = rw full (omega arith)
-
-  first_taken : Takes room 0 a room1 mark1
-  first_taken = subst (λ k. Takes room 0 k room1 mark1) is first
-
-  pub room_for_second : HasRoom room1 mark1 b
-  room_for_second = room_behind room room1 0 mark1 a b (room_less room 0 (a + b + c + d) (a + b) has (omega arith)) first_taken
-
-  module _ (room2 : Option ℕ) (mark2 : ℕ) (second : Takes room1 mark1 b room2 mark2) where
-    second_taken : Takes room 0 (a + b) room2 mark2
-    second_taken = takes_more room room1 room2 0 mark1 mark2 a b first_taken second
-
-    pub room_for_third : HasRoom room2 mark2 c
-    room_for_third = room_behind room room2 0 mark2 (a + b) c (room_less room 0 (a + b + c + d) (a + b + c) has (omega arith)) second_taken
-
-    module _ (room3 : Option ℕ) (mark3 : ℕ) (third : Takes room2 mark2 c room3 mark3) where
-      third_taken : Takes room 0 (a + b + c) room3 mark3
-      third_taken = takes_more room room2 room3 0 mark2 mark3 (a + b) c second_taken third
-
-      pub room_for_fourth : HasRoom room3 mark3 d
-      room_for_fourth = room_behind room room3 0 mark3 (a + b + c) d has third_taken
-
-      -- only what is held back has room at the end
-      pub room_at_last : (room4 : Option ℕ) (mark4 : ℕ) → Takes room3 mark3 d room4 mark4 → room4 ≡ Some mark4
-      room_at_last room4 mark4 fourth =
-          let all : Takes room 0 (a + b + c + d) room4 mark4 = takes_more room room3 room4 0 mark3 mark4 (a + b + c) d third_taken fourth in
-          all.left 0 (full ∙ ap Some (omega arith)) ∙ ap Some (omega arith)

@@ -1,7 +1,6 @@
--- Why a draft isn't rendered, and what the counts of a shelf say of that.
-use Rattle.std.specs.Prelude.{◌≡◌, ℕ, ◌<◌, ◌≤◌, Result, IfErr, ⊤}
+-- Why a draft isn't rendered.
+use Rattle.std.specs.Prelude.{◌≡◌, ℕ, ◌<◌, ◌≤◌, Result, Ok, Err, ⊤}
 use Rattle.bl_format.specs.Limits.{most_output_nodes}
-use Rattle.bl_shelf.specs.Causes.{Rose}
 use Rattle.bl_shelf.specs.declared.shelf.ShelfFault.{ShelfFault}
 use Rattle.bl_shelf.specs.declared.shelf.ShelfFault.TheVariants as shelf
 use Rattle.bl_writer.specs.declared.fault.WriteFault.{WriteFault}
@@ -24,14 +23,7 @@ IsRefusal n faults.Absent = ⊤
 IsRefusal n faults.Device = ⊤
 IsRefusal n faults.NoMemory = ⊤
 
--- the count of a shelf that a fault blames has risen
-abbrev pub BlamesRisen : WriteFault → ℕ → ℕ → ℕ → ℕ → Type 0
-BlamesRisen faults.Absent faults faults' misses misses' = Rose misses misses'
-BlamesRisen faults.Device faults faults' misses misses' = Rose faults faults'
-BlamesRisen _ faults faults' misses misses' = ⊤
-
--- no count of a shelf falls, and one that a fault blames has risen
-pub record HasWriteCause {T : Type 0} (faults faults' misses misses' : ℕ) (result : Result T WriteFault) : Type 0 where
-  pub faults_grow : faults ≤ faults'
-  pub misses_grow : misses ≤ misses'
-  pub blamed : IfErr result (λ fault. BlamesRisen fault faults faults' misses misses')
+-- an answer to a draft of so many of one file's own nodes: it is rendered only where they are few enough, and else refused
+abbrev pub KeepsLimit : {T : Type 0} → ℕ → Result T WriteFault → Type 0
+KeepsLimit n (Ok _) = n ≤ most_output_nodes
+KeepsLimit n (Err fault) = IsRefusal n fault

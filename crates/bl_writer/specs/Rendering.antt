@@ -1,9 +1,11 @@
 -- How an output is staged: what of a text is staged and what is held back, and the room that is left.
-use Rattle.std.specs.Prelude.{◌≡◌, ℕ, ◌+◌, ◌-◌, ◌≤◌, List, ◌++◌, length, codes, Option, Some, option_map, IsSomeAnd}
+use Rattle.std.specs.Prelude.{◌≡◌, ℕ, ◌+◌, ◌-◌, ◌≤◌, List, ◌++◌, length, take, codes, Option, Some, option_map, IsSomeAnd}
 use Rattle.bl_format.specs.declared.file.Header.{Header}
 use Rattle.bl_format.specs.Words.{zeros}
-use Rattle.bl_format.specs.Blocks.{header_size, head_size}
+use Rattle.bl_format.specs.Blocks.{head_size}
 use Rattle.bl_shelf.specs.Told.{Told, push_in}
+use Rattle.bl_shelf.specs.declared.shelf.Shelf.{Ghosts}
+use Rattle.bl_writer.specs.declared.buffer.OutBuffer.{OutBuffer}
 
 -- ---- what is staged
 
@@ -24,6 +26,22 @@ HasRoom room filled n = IsSomeAnd room (λ left. filled + n ≤ left)
 pub record Takes (room : Option ℕ) (filled n : ℕ) (room' : Option ℕ) (filled' : ℕ) : Type 0 where
   pub left : (rest : ℕ) → room ≡ Some (filled + n + rest) → room' ≡ Some (filled' + rest)
 
+-- what is held back
+abbrev pub pending : OutBuffer → List ℕ
+pending b = take b.filled b.bytes.items
+
+-- bytes can be added: what is held back stands in the buffer, the longest piece fits it, and there is room
+pub record CanAdd {S : Type 0} (g : Ghosts S) (s : S) (b : OutBuffer) (longest n : ℕ) : Type 0 where
+  pub filled : b.filled ≤ length b.bytes.items
+  pub fits : longest ≤ length b.bytes.items
+  pub room : HasRoom (g.room s) b.filled n
+
+-- so many bytes were added
+pub record HasAdded {S : Type 0} (g : Ghosts S) (s s' : S) (b b' : OutBuffer) (n : ℕ) : Type 0 where
+  pub filled : b'.filled ≤ length b'.bytes.items
+  pub long : length b'.bytes.items ≡ length b.bytes.items
+  pub room : Takes (g.room s) b.filled n (g.room s') b'.filled
+
 -- the same files, and these bytes staged under a name
 abbrev pub staged_as : List ℕ → List ℕ → Told → Told
 staged_as name bytes t = record { held = t.held; staged = Some (record { name = name; bytes = bytes }) }
@@ -33,9 +51,3 @@ staged_as name bytes t = record { held = t.held; staged = Some (record { name = 
 -- the end of a file: `ENDB` and zeros, as long as a head
 abbrev pub end_written : Header → List ℕ
 end_written h = codes "ENDB" ++ zeros (head_size h - 4)
-
--- ---- lengths
-
--- the bytes of an output, by those of its blocks and of its catalogue
-abbrev pub form_length : Header → ℕ → ℕ → ℕ
-form_length h blocks catalogue = header_size h + blocks + (head_size h + catalogue) + head_size h

@@ -1,8 +1,8 @@
-ghost use Rattle.std.specs.Prelude.{◌≡◌, ◌≢◌, ◌<◌, ◌≤◌, ◌^◌, length, None, OnOk, IsErrOf};
-ghost use Rattle.bl_shelf.specs.Causes.{HasCause};
+ghost use Rattle.std.specs.Prelude.{◌≡◌, ◌≢◌, ◌<◌, ◌≤◌, ◌^◌, length, OnOk};
 ghost use Rattle.bl_format.specs.Limits.{most_output_nodes};
 ghost use Rattle.bl_format.specs.Blocks.{head_size, head_written, code_meant};
-ghost use Rattle.bl_file.specs.Held.{IsHeldAnd};
+ghost use Rattle.bl_file.specs.Calls.{IsOpen, Stays, Tells};
+ghost use Rattle.bl_file.specs.Frames.{CountsReads};
 ghost use Rattle.bl_writer.specs.Outputs.{IsOutput, output_length, output_scratch, block_bytes};
 ghost use Rattle.bl_writer.specs.Payloads.{block_head};
 
@@ -51,23 +51,16 @@ pub(crate) fn write_block<S: Shelf, P: Payload, T: Targets>(
 ) -> Result<(), ShelfFault>
     requires output { IsOutput output.now (P.file_size payload.old) }
     requires targets { T.count targets.now ≡ length output.now.nodes.now }
-    requires held { IsHeldAnd (S.told shelf.old) (P.file_name payload.old) (P.agrees payload.old) }
+    requires held { IsOpen S.Shelf P.Payload shelf.old payload.old }
     requires k { k < length output.now.nodes.now }
     requires scratch { output_scratch output.now k ≤ length scratch.old }
     requires dst { length dst.old ≡ output_length output.now k }
-    ensures written { OnOk result (IsHeldAnd (S.told shelf.old) (P.file_name payload.old)
+    ensures written { OnOk result (Tells S.Shelf P.Payload shelf.old payload.old
         (λ b. dst.new ≡ block_bytes (T.names targets.now k) output.now b k)) }
     ensures length { length dst.new ≡ length dst.old }
     ensures scratch { length scratch.new ≡ length scratch.old }
-    ensures name { P.file_name payload.new ≡ P.file_name payload.old }
-    ensures size { P.file_size payload.new ≡ P.file_size payload.old }
-    ensures agrees { IsHeldAnd (S.told shelf.old) (P.file_name payload.old)
-        (P.agrees payload.new) }
-    ensures told { S.told shelf.new ≡ S.told shelf.old }
-    ensures room { S.room shelf.new ≡ S.room shelf.old }
-    ensures cause { HasCause (S.faults shelf.old) (S.faults shelf.new)
-        (S.misses shelf.old) (S.misses shelf.new) result }
-    ensures absent { IsErrOf result ShelfFault.Absent → S.told shelf.old ≡ None }
+    ensures stays { Stays S.Shelf P.Payload shelf.old shelf.new payload.old payload.new }
+    ensures cause { CountsReads S.Shelf shelf.old shelf.new result }
     ensures no_memory { result ≢ Err ShelfFault.NoMemory }
 {
     let (own, body) = dst.split_at_mut(head_size(&output.header));

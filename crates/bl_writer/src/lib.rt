@@ -2,6 +2,7 @@
 #![tactic(auto)]
 
 mod blocks;
+mod buffer;
 mod element;
 mod fault;
 mod measure;
@@ -9,12 +10,9 @@ mod node_images;
 mod nodes;
 mod output;
 mod payloads;
-mod pending;
 mod plans;
+mod rendering;
 mod staging;
 
 pub use fault::WriteFault;
-pub use staging::{Totals, render};
-
-#[cfg(test)]
-mod tests;
+pub use rendering::{Totals, render};

@@ -1,12 +1,12 @@
-ghost use Rattle.std.specs.Prelude.{◌≡◌, ◌≢◌, ◌<◌, ◌≤◌, ◌+◌, ◌*◌, ◌^◌, length, None, OnOk, IsErrOf};
+ghost use Rattle.std.specs.Prelude.{◌≡◌, ◌≢◌, ◌<◌, ◌≤◌, ◌+◌, ◌*◌, ◌^◌, length, OnOk};
 ghost use Rattle.bl_format.specs.declared.raw.RawKind.TheVariants.{Pointers};
-ghost use Rattle.bl_shelf.specs.Causes.{HasCause};
 ghost use Rattle.bl_format.specs.Layout.{HasLayout, struct_length};
 ghost use Rattle.bl_format.specs.Graph.{raw_length};
 ghost use Rattle.bl_format.specs.Words.{part};
-ghost use Rattle.bl_file.specs.Held.{IsHeldAnd};
+ghost use Rattle.bl_file.specs.Calls.{IsOpen, Stays, Tells};
+ghost use Rattle.bl_file.specs.Frames.{CountsReads};
 ghost use Rattle.bl_file.specs.Outlines.{IsNodeIn};
-ghost use Rattle.bl_writer.specs.Outputs.{ArePlans, written_length, scratch_of, payload_bytes};
+ghost use Rattle.bl_writer.specs.Outputs.{ArePlans, IsOutput, written_length, scratch_of, payload_bytes};
 ghost use Rattle.bl_writer.specs.Payloads.{payload_place, elements_image, pointers_image, raw_image};
 
 use crate::element::rewrite_elements;
@@ -36,21 +36,14 @@ fn write_elements<I: Images, S: Shelf, P: Payload>(
     requires inside { payload_place output.now.header head + length dst.old
         ≤ P.file_size payload.old }
     requires small { P.file_size payload.old < 2 ^ 63 }
-    requires held { IsHeldAnd (S.told shelf.old) (P.file_name payload.old) (P.agrees payload.old) }
-    ensures written { OnOk result (IsHeldAnd (S.told shelf.old) (P.file_name payload.old)
+    requires held { IsOpen S.Shelf P.Payload shelf.old payload.old }
+    ensures written { OnOk result (Tells S.Shelf P.Payload shelf.old payload.old
         (λ b. dst.new ≡ elements_image (I.names images.now) output.now.header.order
         output.now.layout.now.catalogue output.now.layout.now.width head.index
         (payload_place output.now.header head) head.count b)) }
     ensures length { length dst.new ≡ length dst.old }
-    ensures name { P.file_name payload.new ≡ P.file_name payload.old }
-    ensures size { P.file_size payload.new ≡ P.file_size payload.old }
-    ensures agrees { IsHeldAnd (S.told shelf.old) (P.file_name payload.old)
-        (P.agrees payload.new) }
-    ensures told { S.told shelf.new ≡ S.told shelf.old }
-    ensures room { S.room shelf.new ≡ S.room shelf.old }
-    ensures cause { HasCause (S.faults shelf.old) (S.faults shelf.new)
-        (S.misses shelf.old) (S.misses shelf.new) result }
-    ensures absent { IsErrOf result ShelfFault.Absent → S.told shelf.old ≡ None }
+    ensures stays { Stays S.Shelf P.Payload shelf.old shelf.new payload.old payload.new }
+    ensures cause { CountsReads S.Shelf shelf.old shelf.new result }
     ensures no_memory { result ≢ Err ShelfFault.NoMemory }
 {
     let len = output.layout.length(head.index) as usize;
@@ -79,21 +72,14 @@ fn write_pointers<I: Images, S: Shelf, P: Payload>(
         ≡ raw_length Pointers head.len output.now.header.width output.now.header.width }
     requires inside { payload_place output.now.header head + head.len ≤ P.file_size payload.old }
     requires small { P.file_size payload.old < 2 ^ 63 }
-    requires held { IsHeldAnd (S.told shelf.old) (P.file_name payload.old) (P.agrees payload.old) }
-    ensures written { OnOk result (IsHeldAnd (S.told shelf.old) (P.file_name payload.old)
+    requires held { IsOpen S.Shelf P.Payload shelf.old payload.old }
+    ensures written { OnOk result (Tells S.Shelf P.Payload shelf.old payload.old
         (λ b. dst.new ≡ pointers_image (I.names images.now) output.now.header
         (part b (payload_place output.now.header head) head.len))) }
     ensures length { length dst.new ≡ length dst.old }
     ensures scratch { length scratch.new ≡ length scratch.old }
-    ensures name { P.file_name payload.new ≡ P.file_name payload.old }
-    ensures size { P.file_size payload.new ≡ P.file_size payload.old }
-    ensures agrees { IsHeldAnd (S.told shelf.old) (P.file_name payload.old)
-        (P.agrees payload.new) }
-    ensures told { S.told shelf.new ≡ S.told shelf.old }
-    ensures room { S.room shelf.new ≡ S.room shelf.old }
-    ensures cause { HasCause (S.faults shelf.old) (S.faults shelf.new)
-        (S.misses shelf.old) (S.misses shelf.new) result }
-    ensures absent { IsErrOf result ShelfFault.Absent → S.told shelf.old ≡ None }
+    ensures stays { Stays S.Shelf P.Payload shelf.old shelf.new payload.old payload.new }
+    ensures cause { CountsReads S.Shelf shelf.old shelf.new result }
     ensures no_memory { result ≢ Err ShelfFault.NoMemory }
 {
     let at = payload_place(output, head);
@@ -121,23 +107,16 @@ fn write_raw<I: Images, S: Shelf, P: Payload>(
         (P.file_size payload.old) head }
     requires raw { head.index ≡ 0 }
     requires small { P.file_size payload.old < 2 ^ 63 }
-    requires held { IsHeldAnd (S.told shelf.old) (P.file_name payload.old) (P.agrees payload.old) }
+    requires held { IsOpen S.Shelf P.Payload shelf.old payload.old }
     requires scratch { scratch_of kind head ≤ length scratch.old }
     requires dst { length dst.old ≡ written_length output.now kind head }
-    ensures written { OnOk result (IsHeldAnd (S.told shelf.old) (P.file_name payload.old)
+    ensures written { OnOk result (Tells S.Shelf P.Payload shelf.old payload.old
         (λ b. dst.new ≡ raw_image (I.names images.now) output.now.header kind
         (part b (payload_place output.now.header head) head.len))) }
     ensures length { length dst.new ≡ length dst.old }
     ensures scratch { length scratch.new ≡ length scratch.old }
-    ensures name { P.file_name payload.new ≡ P.file_name payload.old }
-    ensures size { P.file_size payload.new ≡ P.file_size payload.old }
-    ensures agrees { IsHeldAnd (S.told shelf.old) (P.file_name payload.old)
-        (P.agrees payload.new) }
-    ensures told { S.told shelf.new ≡ S.told shelf.old }
-    ensures room { S.room shelf.new ≡ S.room shelf.old }
-    ensures cause { HasCause (S.faults shelf.old) (S.faults shelf.new)
-        (S.misses shelf.old) (S.misses shelf.new) result }
-    ensures absent { IsErrOf result ShelfFault.Absent → S.told shelf.old ≡ None }
+    ensures stays { Stays S.Shelf P.Payload shelf.old shelf.new payload.old payload.new }
+    ensures cause { CountsReads S.Shelf shelf.old shelf.new result }
     ensures no_memory { result ≢ Err ShelfFault.NoMemory }
 {
     if holds_pointers(kind) {
@@ -159,28 +138,18 @@ pub(crate) fn write_payload<I: Images, S: Shelf, P: Payload>(
     scratch: &mut [u8],
     dst: &mut [u8],
 ) -> Result<(), ShelfFault>
-    requires layout { HasLayout output.now.layout.now.catalogue output.now.layout.now.width }
-    requires plans { ArePlans output.now.layout.now.catalogue output.now.layout.now.width
-        output.now.plans.now }
+    requires output { IsOutput output.now (P.file_size payload.old) }
     requires node { IsNodeIn output.now.header output.now.layout.now.catalogue
         (P.file_size payload.old) head }
-    requires small { P.file_size payload.old < 2 ^ 63 }
-    requires held { IsHeldAnd (S.told shelf.old) (P.file_name payload.old) (P.agrees payload.old) }
+    requires held { IsOpen S.Shelf P.Payload shelf.old payload.old }
     requires scratch { scratch_of kind head ≤ length scratch.old }
     requires dst { length dst.old ≡ written_length output.now kind head }
-    ensures written { OnOk result (IsHeldAnd (S.told shelf.old) (P.file_name payload.old)
+    ensures written { OnOk result (Tells S.Shelf P.Payload shelf.old payload.old
         (λ b. dst.new ≡ payload_bytes (I.names images.now) output.now b kind head)) }
     ensures length { length dst.new ≡ length dst.old }
     ensures scratch { length scratch.new ≡ length scratch.old }
-    ensures name { P.file_name payload.new ≡ P.file_name payload.old }
-    ensures size { P.file_size payload.new ≡ P.file_size payload.old }
-    ensures agrees { IsHeldAnd (S.told shelf.old) (P.file_name payload.old)
-        (P.agrees payload.new) }
-    ensures told { S.told shelf.new ≡ S.told shelf.old }
-    ensures room { S.room shelf.new ≡ S.room shelf.old }
-    ensures cause { HasCause (S.faults shelf.old) (S.faults shelf.new)
-        (S.misses shelf.old) (S.misses shelf.new) result }
-    ensures absent { IsErrOf result ShelfFault.Absent → S.told shelf.old ≡ None }
+    ensures stays { Stays S.Shelf P.Payload shelf.old shelf.new payload.old payload.new }
+    ensures cause { CountsReads S.Shelf shelf.old shelf.new result }
     ensures no_memory { result ≢ Err ShelfFault.NoMemory }
 {
     if head.index == 0 {

@@ -31,14 +31,14 @@ pub overflow_add-at : goal.overflow_add-at
 overflow_add-at c =
     let s = step_of c.args.header.now c.args.bytes.now c.loop.at c.next_block.result (Ok (Block c.in-Block.head)) c.next_block.ensures (c.in_ok-head.was ∙ ap Ok c.in-Block.is) in
     let inside = block_inside c.args.header.now c.args.bytes.now c.loop.at c.in-Block.head s in
-    let size : c.head_size.result ≡ head_size c.args.header.now = c.head_size.ensures in
+    let size : c.head_size.result ≡ head_size c.args.header.now = c.head_size.ensures.size in
     omega (arith, inside, size)
 
 pub overflow_add-at-in-Block : goal.overflow_add-at-in-Block
 overflow_add-at-in-Block c =
     let s = step_of c.args.header.now c.args.bytes.now c.loop.at c.next_block.result (Ok (Block c.in-Block.head)) c.next_block.ensures (c.in_ok-head.was ∙ ap Ok c.in-Block.is) in
     let inside = block_inside c.args.header.now c.args.bytes.now c.loop.at c.in-Block.head s in
-    let size : c.head_size.result ≡ head_size c.args.header.now = c.head_size.ensures in
+    let size : c.head_size.result ≡ head_size c.args.header.now = c.head_size.ensures.size in
     omega (arith, inside, size)
 
 pub loop-preserved : goal.loop-preserved
@@ -47,7 +47,7 @@ loop-preserved c =
     let b = c.args.bytes.now in
     let s = step_of h b c.loop.at c.next_block.result (Ok (Block c.in-Block.head)) c.next_block.ensures (c.in_ok-head.was ∙ ap Ok c.in-Block.is) in
     let inside = block_inside h b c.loop.at c.in-Block.head s in
-    let size : c.head_size.result ≡ head_size h = c.head_size.ensures in
+    let size : c.head_size.result ≡ head_size h = c.head_size.ensures.size in
     let next : c.loop.at + head_size h + c.in-Block.head.len ≡ c.loop.at + (c.head_size.result + c.in-Block.head.len) = omega (arith, size) in
     record {
       stand = rw c.in_ok-push-in-Block.ensures.items (subst (λ (i : ℕ). AreBlocks h b (header_size h) (c.loop.heads.items ++ c.in-Block.head ∷ []) i) next (AreBlocks-push h b (header_size h) c.loop.at c.loop.heads.items c.in-Block.head c.loop.invariant.stand s));

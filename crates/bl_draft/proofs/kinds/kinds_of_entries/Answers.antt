@@ -13,12 +13,12 @@ pub raw_kinds-requires-clause-nodes : goal.raw_kinds-requires-clause-nodes
 raw_kinds-requires-clause-nodes g c =
     let o = c.args.outline.now in
     let heads = c.args.heads.now in
-    subst (λ (size : ℕ). All (IsNodeIn o.header o.layout.catalogue size) heads) (sym c.requires.size)
-    (heads-IsNodeIn o c.args.draft.now heads c.requires.sound c.requires.own c.requires.heads)
+    subst (λ (size : ℕ). All (IsNodeIn o.header o.layout.catalogue size) heads) (sym c.requires.source.size)
+    (heads-IsNodeIn o c.args.draft.now heads c.requires.source.sound c.requires.source.own c.requires.heads)
 
 pub raw_kinds-requires-clause-few : goal.raw_kinds-requires-clause-few
 raw_kinds-requires-clause-few g c =
-    heads-few c.args.outline.now c.args.draft.now c.args.heads.now c.requires.own c.requires.heads
+    heads-few c.args.outline.now c.args.draft.now c.args.heads.now c.requires.source.own c.requires.heads
 
 pub returns-clause-kinds : goal.returns-clause-kinds
 returns-clause-kinds g c =
@@ -30,5 +30,5 @@ returns-clause-kinds g c =
     IfOk-weaker c.raw_kinds.result
     (λ kinds. IsHeldAnd told name (λ b. kinds.items ≡ kinds_seen heads (views_seen names o.header o.layout.catalogue heads b))) _
     (λ kinds held. IsHeldAnd-weaker told name _ _ held
-    (λ b is. is ∙ kinds-own o c.args.draft.now names heads b c.requires.sound c.requires.own c.requires.heads c.requires.names))
+    (λ b is. is ∙ kinds-own o c.args.draft.now names heads b c.requires.source.sound c.requires.source.own c.requires.heads c.requires.names))
     c.raw_kinds.ensures.kinds

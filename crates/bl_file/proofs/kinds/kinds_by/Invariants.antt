@@ -1,5 +1,3 @@
-use Rattle.std.proofs.Common.{◌≡◌, take}
-use Rattle.bl_file.specs.Views.{kind_by}
 use Rattle.bl_file.proofs.KindLemmas.{KindsSoFar}
 use Rattle.bl_file.proofs.kinds.kinds_by.Given as goal
 

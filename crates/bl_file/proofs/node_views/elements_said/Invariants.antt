@@ -1,17 +1,14 @@
 use Rattle.std.proofs.Common.{◌≡◌, ◌++◌, ℕ, List, length}
-use Rattle.bl_file.specs.Held.{IsHeldAnd}
-use Rattle.bl_file.specs.Views.{AreInside, StaysRead, elements_said}
+use Rattle.bl_shelf.specs.Calls.{IsQuiet}
+use Rattle.bl_file.specs.Calls.{Stays, Tells}
+use Rattle.bl_file.specs.Views.{AreInside, elements_said}
 use Rattle.bl_file.proofs.node_views.elements_said.Given as goal
 
 abbrev pub invariant-loop-element : goal.invariant-loop-element
 invariant-loop-element g l =
-    let told = g.S.Shelf.told in
-    let name = g.P.Payload.file_name in
-    (IsHeldAnd (told l.initial.shelf) (name l.initial.payload) (λ (b : List ℕ). l.seen.items ≡ l.initial.seen.items
-    ++ elements_said l.speakers l.sight.nodes.now (g.T.Targets.names l.targets l.number) l.sight.header.now l.sight.layout.now.catalogue l.node b l.element))
-    × AreInside l.sight.nodes.now l.seen.items
+    (Tells g.S.Shelf g.P.Payload l.initial.shelf l.initial.payload (λ (b : List ℕ). l.seen.items ≡ l.initial.seen.items
+    ++ elements_said l.node.speakers.now l.node.sight.now.nodes.now (g.T.Targets.names l.targets l.node.number) l.node.sight.now.header.now l.node.sight.now.layout.now.catalogue l.node.head.now b l.element))
+    × AreInside l.node.sight.now.nodes.now l.seen.items
     × (length l.bytes ≡ length l.initial.bytes)
-    × StaysRead (told l.initial.shelf) (told l.shelf) (g.S.Shelf.room l.initial.shelf) (g.S.Shelf.room l.shelf)
-    (g.S.Shelf.faults l.initial.shelf) (g.S.Shelf.faults l.shelf) (g.S.Shelf.misses l.initial.shelf) (g.S.Shelf.misses l.shelf)
-    (name l.initial.payload) (name l.payload) (g.P.Payload.file_size l.initial.payload) (g.P.Payload.file_size l.payload)
-    (g.P.Payload.agrees l.payload)
+    × Stays g.S.Shelf g.P.Payload l.initial.shelf l.shelf l.initial.payload l.payload
+    × IsQuiet g.S.Shelf l.initial.shelf l.shelf

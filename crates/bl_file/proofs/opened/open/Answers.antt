@@ -12,9 +12,9 @@ returns-then-sum-gt-MAX_INPUT_BYTES-clause-refuses g c =
 pub returns-in-Ok-read_outline-clause-passes : goal.returns-in-Ok-read_outline-clause-passes
 returns-in-Ok-read_outline-clause-passes g c =
     format_passes (g.S.Shelf.told c.args.shelf.now) c.args.name.now c.args.used c.in-Ok.size c.if-sum-gt-MAX_INPUT_BYTES.false c.in-Ok.ensures.size
-    (rw (← c.in-Ok.ensures.told, ← c.in-Ok-start.ensures.told, ← c.in-Ok-start.ensures.name) c.in-Ok-read_outline.ensures.passes)
+    (rw (← c.in-Ok.ensures.keeps.told, ← c.in-Ok-start.ensures.keeps.told, ← c.in-Ok-start.ensures.name) c.in-Ok-read_outline.ensures.passes)
 
 pub returns-in-Err-read_outline-clause-refuses : goal.returns-in-Err-read_outline-clause-refuses
 returns-in-Err-read_outline-clause-refuses g c =
     format_refuses (g.S.Shelf.told c.args.shelf.now) c.args.name.now c.args.used c.in-Ok.size c.in-Err-read_outline.fault c.if-sum-gt-MAX_INPUT_BYTES.false c.in-Ok.ensures.size
-    (rw (← c.in-Ok.ensures.told, ← c.in-Ok-start.ensures.told, ← c.in-Ok-start.ensures.name) c.in-Err-read_outline.ensures.fault)
+    (rw (← c.in-Ok.ensures.keeps.told, ← c.in-Ok-start.ensures.keeps.told, ← c.in-Ok-start.ensures.name) c.in-Err-read_outline.ensures.fault)

@@ -6,4 +6,4 @@ returns-in-Err-clause-fault g c = header_why _ _ (g.P.Payload.agrees c.args.payl
 
 pub returns-in-Err-read_blocks-clause-fault : goal.returns-in-Err-read_blocks-clause-fault
 returns-in-Err-read_blocks-clause-fault g c =
-    blocks_why _ _ c.in-Ok.header c.in-Err-read_blocks.fault c.in-Ok.ensures.read (rw (← c.in-Ok.ensures.told, ← c.in-Ok.ensures.name) c.in-Err-read_blocks.ensures.fault)
+    blocks_why _ _ c.in-Ok.header c.in-Err-read_blocks.fault c.in-Ok.ensures.read (rw (← c.in-Ok.ensures.stays.shelf.told, ← c.in-Ok.ensures.stays.name) c.in-Err-read_blocks.ensures.fault)

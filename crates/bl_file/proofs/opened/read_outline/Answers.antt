@@ -10,10 +10,10 @@ outline_of-requires-clause-frame g c =
 pub outline_of-requires-clause-read : goal.outline_of-requires-clause-read
 outline_of-requires-clause-read g c =
     let layout = c.in-Ok-read_layout.ensures in
-    file_read _ _ _ _ c.in-Ok.read.0 c.in-Ok.read.1.items c.deref.result.now _ c.deref-2.result.now c.in-Ok-read_layout.layout.catalogue layout.told layout.name c.deref.ensures.value c.keep_nodes.ensures c.deref-2.ensures.value layout.read c.in-None.ensures
+    file_read _ _ _ _ c.in-Ok.read.0 c.in-Ok.read.1.items c.deref.result.now _ c.deref-2.result.now c.in-Ok-read_layout.layout.catalogue layout.stays.shelf.told layout.stays.name c.deref.ensures.value c.keep_nodes.ensures c.deref-2.ensures.value layout.read c.in-None.ensures
 
 pub returns-in-Some-clause-fault : goal.returns-in-Some-clause-fault
 returns-in-Some-clause-fault g c =
     let front = c.in-Ok.ensures in
-    node_why _ _ _ _ c.in-Ok.read.0 c.in-Ok.read.1.items c.deref.result.now _ c.deref-2.result.now c.in-Ok-read_layout.layout.catalogue front.told front.name c.deref.ensures.value c.keep_nodes.ensures c.deref-2.ensures.value c.in-Some.fault
+    node_why _ _ _ _ c.in-Ok.read.0 c.in-Ok.read.1.items c.deref.result.now _ c.deref-2.result.now c.in-Ok-read_layout.layout.catalogue front.stays.shelf.told front.stays.name c.deref.ensures.value c.keep_nodes.ensures c.deref-2.ensures.value c.in-Some.fault
     c.in-Ok-read_layout.ensures.read c.in-Some.ensures

@@ -10,7 +10,7 @@ pub returns-clause-sound : goal.returns-clause-sound
 returns-clause-sound g c =
     let part = c.read_part.new.dst in
     let least = c.min.ensures in
-    let head = c.head_size.ensures in
+    let head = c.head_size.ensures.size in
     let len : length part ≡ c.min.result = window_length c.min.result _ part c.read_part.auto.dst (windowed c.args.header.now c.min.result (c.args.size - c.args.at) c.head_size.result least head) in
     let fits : min (head_size c.args.header.now) (c.args.size - c.args.at) ≤ length part = omega (arith, len, least, head) in
     let inside : c.args.at + length part ≤ c.args.size = let within = c.requires.inside in omega (arith, len, least, head, within) in
@@ -23,7 +23,7 @@ returns-clause-read g c =
     let name = g.P.Payload.file_name c.args.payload.now in
     let part = c.read_part.new.dst in
     let least = c.min.ensures in
-    let head = c.head_size.ensures in
+    let head = c.head_size.ensures.size in
     let len : length part ≡ c.min.result = window_length c.min.result _ part c.read_part.auto.dst (windowed c.args.header.now c.min.result (c.args.size - c.args.at) c.head_size.result least head) in
     let fits : min (head_size c.args.header.now) (c.args.size - c.args.at) ≤ length part = omega (arith, len, least, head) in
     step_read told name c.args.header.now c.args.size c.args.at part c.step_in.result c.step_in.ensures.bytes fits c.step_in.ensures.step
@@ -35,7 +35,7 @@ returns-clause-fault g c =
     let name = g.P.Payload.file_name c.args.payload.now in
     let part = c.read_part.new.dst in
     let least = c.min.ensures in
-    let head = c.head_size.ensures in
+    let head = c.head_size.ensures.size in
     let len : length part ≡ c.min.result = window_length c.min.result _ part c.read_part.auto.dst (windowed c.args.header.now c.min.result (c.args.size - c.args.at) c.head_size.result least head) in
     let fits : min (head_size c.args.header.now) (c.args.size - c.args.at) ≤ length part = omega (arith, len, least, head) in
     step_fault told name c.args.header.now c.args.size c.args.at part c.step_in.result c.step_in.ensures.bytes fits c.step_in.ensures.step

@@ -6,9 +6,9 @@ use Rattle.bl_format.specs.declared.catalogue.StructEntry.{StructEntry}
 use Rattle.bl_format.specs.declared.catalogue.MemberEntry.{MemberEntry}
 use Rattle.bl_format.specs.Members.{member_name}
 use Rattle.bl_format.specs.Layout.{content_of, struct_entry, member_entry, type_entry, name_entry, struct_length, has_bad_name, has_bad_length, overruns}
-use Rattle.bl_layout.specs.declared.names.NameEntry.{NameEntry}
+use Rattle.bl_layout.specs.declared.member_names.NameEntry.{NameEntry}
 use Rattle.bl_layout.specs.declared.check.Failed.{Failed}
-use Rattle.bl_layout.specs.Basics.{content_meant}
+use Rattle.bl_layout.specs.BasicTypes.{content_meant}
 use Rattle.bl_layout.specs.Sizes.{parts_of}
 use Rattle.bl_layout.proofs.CheckLemmas.{struct_fits, member_fits, length_test, member_fault-failed}
 use Rattle.bl_layout.proofs.check.member_fault.Goals as goal

@@ -2,7 +2,7 @@ use Rattle.std.proofs.Common.{get_or, [], ◌≡◌, List, ℕ, ap, ◌∙◌}
 use Rattle.std.specs.Ordering.{nat_cmp}
 use Rattle.std.specs.Cmp.Lexicographic.{slice_cmp}
 use Rattle.std.proofs.lemmas.List.{get_or_default}
-use Rattle.bl_layout.specs.Names.{name_parts}
+use Rattle.bl_layout.specs.MemberNames.{name_parts}
 use Rattle.bl_layout.specs.Identifiers.{identifier_of, known_number}
 use Rattle.bl_layout.proofs.IdentifierLemmas.{get_by_empty, Knows-none, Knows-push, Knows-all}
 use Rattle.bl_layout.proofs.identifiers.identifier_numbers.Goals as goal

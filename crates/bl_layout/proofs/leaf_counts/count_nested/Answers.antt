@@ -10,9 +10,9 @@ index-requires c =
       arith,
       c.loop-s-test.true,
       c.requires.before.len,
-      ap length c.requires.groundwork.nestings,
+      ap length c.requires.layout_tables.nestings,
       nestings_in-len c.args.catalogue.now,
-      c.args.groundwork.now.nestings.ok,
+      c.args.layout_tables.now.nestings.ok,
     )
 
 pub struct_leaves-count-requires-clause-nested : goal.struct_leaves-count-requires-clause-nested
@@ -20,7 +20,7 @@ struct_leaves-count-requires-clause-nested c =
     let cat = c.args.catalogue.now in
     let s = c.loop-s.s in
     let inside : s < length cat.structs = omega (arith, c.loop-s-test.true, c.requires.before.len) in
-    sym (nesting_at cat c.args.groundwork.now.nestings.items s c.index.result.now c.requires.groundwork.nestings inside)
+    sym (nesting_at cat c.args.layout_tables.now.nestings.items s c.index.result.now c.requires.layout_tables.nestings inside)
     ∙ sym c.index.ensures ∙ c.if-index-depth.true
 
 pub loop-s-preserved : goal.loop-s-preserved
@@ -32,7 +32,7 @@ loop-s-preserved c =
     let counts = c.loop-s.counts in
     let inside : s < length cat.structs = omega (arith, c.loop-s-test.true, c.requires.before.len) in
     let is : c.index.result.now ≡ nesting cat s = c.index.ensures
-    ∙ nesting_at cat c.args.groundwork.now.nestings.items s c.index.result.now c.requires.groundwork.nestings inside in
+    ∙ nesting_at cat c.args.layout_tables.now.nestings.items s c.index.result.now c.requires.layout_tables.nestings inside in
     elim c.if-index-depth.branch [
       | then-index-depth b ↦ rw b.counts-is (AreCounts-set cat w depth s b.struct_leaves-count.result counts c.loop-s.invariant
           c.requires.catalogue c.requires.members inside (sym is ∙ b.if-index-depth.true) b.struct_leaves-count.ensures)

@@ -11,12 +11,12 @@ use Rattle.bl_layout.proofs.leaf_levels.build_level.Goals.{then-own-nesting+in_o
 
 pub struct_leaves-requires-clause-place : goal.struct_leaves-requires-clause-place
 struct_leaves-requires-clause-place c =
-    let len = nestings-len c.args.catalogue.now c.deref-own-items.result.now (c.deref-own-items.ensures.value ∙ c.requires.groundwork.nestings) in
+    let len = nestings-len c.args.catalogue.now c.deref-own-items.result.now (c.deref-own-items.ensures.value ∙ c.requires.layout_tables.nestings) in
     omega (arith, c.loop-s-test.true, len)
 
 pub overflow_cast-s : goal.overflow_cast-s
 overflow_cast-s c =
-    let len = nestings-len c.args.catalogue.now c.deref-own-items.result.now (c.deref-own-items.ensures.value ∙ c.requires.groundwork.nestings) in
+    let len = nestings-len c.args.catalogue.now c.deref-own-items.result.now (c.deref-own-items.ensures.value ∙ c.requires.layout_tables.nestings) in
     omega (arith, c.loop-s-test.true, len, c.requires.catalogue.few_structs)
 
 pub struct_leaves-requires-clause-inner : goal.struct_leaves-requires-clause-inner
@@ -24,19 +24,19 @@ struct_leaves-requires-clause-inner c =
     let cat = c.args.catalogue.now in
     let s = c.loop-s.s in
     let held = c.deref-own-items.result.now in
-    let same = c.deref-own-items.ensures.value ∙ c.requires.groundwork.nestings in
+    let same = c.deref-own-items.ensures.value ∙ c.requires.layout_tables.nestings in
     let place : s < length cat.structs = omega (arith, c.loop-s-test.true, nestings-len cat held same) in
     let own : nesting cat s ≡ c.args.nesting = sym (nesting-at cat held s same place) ∙ c.if-own-nesting.true in
     UpTo-inner cat c.args.width c.args.nesting s s (lists_of c.loop-s.table) c.loop-s.invariant c.requires.members place own
 
 pub offset_bounds-table-s : goal.offset_bounds-table-s
 offset_bounds-table-s c =
-    let len = nestings-len c.args.catalogue.now c.deref-own-items.result.now (c.deref-own-items.ensures.value ∙ c.requires.groundwork.nestings) in
+    let len = nestings-len c.args.catalogue.now c.deref-own-items.result.now (c.deref-own-items.ensures.value ∙ c.requires.layout_tables.nestings) in
     omega (arith, c.loop-s-test.true, len, c.requires.catalogue.few_structs)
 
 pub bounds-table-s : goal.bounds-table-s
 bounds-table-s c =
-    let len = nestings-len c.args.catalogue.now c.deref-own-items.result.now (c.deref-own-items.ensures.value ∙ c.requires.groundwork.nestings) in
+    let len = nestings-len c.args.catalogue.now c.deref-own-items.result.now (c.deref-own-items.ensures.value ∙ c.requires.layout_tables.nestings) in
     omega (arith, c.loop-s-test.true, len, c.loop-s.invariant.below.len, length-lists_of c.loop-s.table)
 
 pub loop-s-preserved : goal.loop-s-preserved
@@ -44,7 +44,7 @@ loop-s-preserved c =
     let cat = c.args.catalogue.now in
     let s = c.loop-s.s in
     let held = c.deref-own-items.result.now in
-    let same = c.deref-own-items.ensures.value ∙ c.requires.groundwork.nestings in
+    let same = c.deref-own-items.ensures.value ∙ c.requires.layout_tables.nestings in
     let place : s < length cat.structs = omega (arith, c.loop-s-test.true, nestings-len cat held same) in
     elim c.if-own-nesting.branch [
       | then-own-nesting+in_ok-table w ↦
@@ -61,5 +61,5 @@ loop-s-preserved c =
 pub returns : goal.returns
 returns c =
     let cat = c.args.catalogue.now in
-    let len = nestings-len cat c.deref-own-items.result.now (c.deref-own-items.ensures.value ∙ c.requires.groundwork.nestings) in
+    let len = nestings-len cat c.deref-own-items.result.now (c.deref-own-items.ensures.value ∙ c.requires.layout_tables.nestings) in
     UpTo-all cat c.args.width c.args.nesting c.loop-s.s (lists_of c.loop-s.table) c.loop-s.invariant (omega (arith, c.loop-s-test.false, len))

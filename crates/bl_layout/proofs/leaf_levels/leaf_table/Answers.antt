@@ -6,9 +6,9 @@ use Rattle.bl_layout.proofs.leaf_levels.leaf_table.Goals as goal
 pub loop-nesting-init : goal.loop-nesting-init
 loop-nesting-init c =
     let cat = c.args.catalogue.now in
-    let held = c.args.groundwork.now.nestings in
+    let held = c.args.layout_tables.now.nestings in
     Below-none cat c.args.width (lists_of c.in_ok-table.table.items)
-    (omega (arith, length-lists_of c.in_ok-table.table.items, c.in_ok-table.ensures, c.len.ensures, nestings-len cat held.items c.requires.groundwork.nestings, held.ok))
+    (omega (arith, length-lists_of c.in_ok-table.table.items, c.in_ok-table.ensures, c.len.ensures, nestings-len cat held.items c.requires.layout_tables.nestings, held.ok))
     c.requires.members
 
 pub returns : goal.returns

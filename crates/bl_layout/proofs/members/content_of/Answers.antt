@@ -2,8 +2,8 @@ use Rattle.std.proofs.Common.{◌<◌, ◌^◌, [], length, ap, ◌∙◌, arith
 use Rattle.std.proofs.lemmas.List.{get_or_default}
 use Rattle.bl_format.specs.declared.catalogue.TypeEntry.{TypeEntry}
 use Rattle.bl_format.specs.Layout.{basic_named, basic_or_struct, content_of}
-use Rattle.bl_layout.specs.declared.basics.Content.TheVariants as contents
-use Rattle.bl_layout.specs.Basics.{content_meant, struct_among}
+use Rattle.bl_layout.specs.declared.basic_types.Content.TheVariants as contents
+use Rattle.bl_layout.specs.BasicTypes.{content_meant, struct_among}
 use Rattle.bl_layout.specs.Tables.{numbered}
 use Rattle.bl_layout.proofs.NumberedLemmas.{numbered_inside, numbered_at}
 use Rattle.bl_layout.proofs.members.content_of.Goals as goal

@@ -1,7 +1,7 @@
 use Rattle.std.proofs.Common.{List, length, get_or, ap, ◌∙◌, arith}
 use Rattle.std.proofs.lemmas.List.{length-map}
-use Rattle.bl_layout.specs.declared.names.NameEntry.{NameEntry}
-use Rattle.bl_layout.specs.Names.{entry_of_name}
+use Rattle.bl_layout.specs.declared.member_names.NameEntry.{NameEntry}
+use Rattle.bl_layout.specs.MemberNames.{entry_of_name}
 use Rattle.bl_layout.specs.Tables.{numbered}
 use Rattle.bl_layout.proofs.NumberedLemmas.{numbered_inside, name_at}
 use Rattle.bl_layout.proofs.members.name_of.Goals as goal

@@ -14,8 +14,8 @@ pub is_above-requires : goal.is_above-requires
 is_above-requires c = λ k d lt.
     let inner = c.as_slice-inner.result.now in
     let ranks = c.as_slice-ranks.result.now in
-    let are_inner : AreInnerStructs c.args.catalogue.now inner = rw c.as_slice-inner.ensures.value c.requires.survey.inner in
-    let are_ranks : AreRanks (links_of inner) ranks = rw (c.as_slice-inner.ensures.value, c.as_slice-ranks.ensures.value) c.requires.survey.ranks in
+    let are_inner : AreInnerStructs c.args.catalogue.now inner = rw c.as_slice-inner.ensures.value c.requires.check_tables.inner in
+    let are_ranks : AreRanks (links_of inner) ranks = rw (c.as_slice-inner.ensures.value, c.as_slice-ranks.ensures.value) c.requires.check_tables.ranks in
     let place : c.args.s < length inner = omega (arith, c.requires.place, links-len c.args.catalogue.now inner are_inner, length-links_of inner) in
     let row : c.deref.result.now ≡ get_or (links_of inner) c.args.s [] = c.deref.ensures.value ∙ links_at inner c.args.s c.index-inner-s.result place c.index-inner-s.is in
     row_inside (links_of inner) ranks c.deref.result.now c.args.s k d (links_inside c.args.catalogue.now inner are_inner) are_ranks.len row lt
@@ -25,8 +25,8 @@ returns-then-is_above c =
     let cat = c.args.catalogue.now in
     let inner = c.as_slice-inner.result.now in
     let ranks = c.as_slice-ranks.result.now in
-    let are_inner : AreInnerStructs c.args.catalogue.now inner = rw c.as_slice-inner.ensures.value c.requires.survey.inner in
-    let are_ranks : AreRanks (links_of inner) ranks = rw (c.as_slice-inner.ensures.value, c.as_slice-ranks.ensures.value) c.requires.survey.ranks in
+    let are_inner : AreInnerStructs c.args.catalogue.now inner = rw c.as_slice-inner.ensures.value c.requires.check_tables.inner in
+    let are_ranks : AreRanks (links_of inner) ranks = rw (c.as_slice-inner.ensures.value, c.as_slice-ranks.ensures.value) c.requires.check_tables.ranks in
     let s = c.args.s in
     let place : s < length inner = omega (arith, c.requires.place, links-len cat inner are_inner, length-links_of inner) in
     let row : c.deref.result.now ≡ get_or (links_of inner) s [] = c.deref.ensures.value ∙ links_at inner s c.index-inner-s.result place c.index-inner-s.is in

@@ -23,7 +23,7 @@ loop-k-preserved c =
     let none : MemberEntry = record { type_number = 0; name_number = 0 } in
     let members = members_same cat c.args.s c.as_slice.result.now c.index-as_slice-s.result c.as_slice-members.result.now c.requires.place c.as_slice.ensures c.as_slice-members.ensures in
     record {
-      apart = subst (λ (b : Bool). OnFalse b (KeepsApart (links_of c.args.survey.now.inner.items) c.member_leads_back.new.marks c.args.s)) c.if-branch.false c.in_ok-member_leads_back.ensures.apart;
+      apart = subst (λ (b : Bool). OnFalse b (KeepsApart (links_of c.args.check_tables.now.inner.items) c.member_leads_back.new.marks c.args.s)) c.if-branch.false c.in_ok-member_leads_back.ensures.apart;
       none = below_more _ _ c.loop-k.invariant.none
           (back_at cat c.args.s c.loop-k.k c.as_slice-members.result.now none c.in_ok-member_leads_back.field-0 members c.loop-k-test.true c.in_ok-member_leads_back.ensures.answer ∙ c.if-branch.false);
     }

@@ -5,6 +5,6 @@ use Rattle.bl_layout.proofs.rings.first_back_among.Given as goal
 
 abbrev pub invariant-loop-k : goal.invariant-loop-k
 invariant-loop-k l = record {
-  apart : KeepsApart (links_of l.survey.inner.items) l.marks l.s;
+  apart : KeepsApart (links_of l.check_tables.inner.items) l.marks l.s;
   none : (j : ℕ) → j < l.k → leads_back l.catalogue l.s (inner_struct l.catalogue l.s j) ≡ false;
 }

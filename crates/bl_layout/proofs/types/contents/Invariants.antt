@@ -1,5 +1,5 @@
 use Rattle.std.proofs.Common.{take, length}
-use Rattle.bl_layout.specs.Basics.{AreContents}
+use Rattle.bl_layout.specs.BasicTypes.{AreContents}
 use Rattle.bl_layout.proofs.types.contents.Given as goal
 
 abbrev pub invariant-loop-entry : goal.invariant-loop-entry

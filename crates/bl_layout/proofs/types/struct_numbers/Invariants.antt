@@ -1,5 +1,5 @@
 use Rattle.std.proofs.Common.{take}
-use Rattle.bl_layout.specs.Basics.{IsStructTable}
+use Rattle.bl_layout.specs.BasicTypes.{IsStructTable}
 use Rattle.bl_layout.proofs.types.struct_numbers.Given as goal
 
 abbrev pub invariant-loop-i : goal.invariant-loop-i

@@ -1,27 +1,22 @@
-use Rattle.std.proofs.Common.{◌≡◌, length, take, refl, ap, subst, ◌∙◌}
-use Rattle.std.proofs.lemmas.Result.{IfOk-weaker}
+use Rattle.std.proofs.Common.{◌≡◌, ◌+◌, length, refl, ap, subst, ◌∙◌, arith}
+use Rattle.std.proofs.lemmas.Result.{on_ok_weaker}
 use Rattle.bl_format.specs.Blocks.{head_size}
-use Rattle.bl_writer.specs.Rendering.{Adds, Takes}
-use Rattle.bl_writer.proofs.BlockLengths.{length-head_written, length-catalogue}
-use Rattle.bl_writer.proofs.Renderings.{adds_more, takes_more, room_behind}
+use Rattle.bl_writer.specs.Rendering.{HasAdded}
+use Rattle.bl_writer.proofs.BlockLengths.{length-head_written}
+use Rattle.bl_writer.proofs.Pushing.{added_more, can_behind}
 use Rattle.bl_writer.proofs.staging.add_catalogue.Goals as goal
 
-pub add_bytes-requires-2-clause-room : goal.add_bytes-requires-2-clause-room
-add_bytes-requires-2-clause-room g c =
-    let size : length c.write_head.new.dst ≡ head_size c.args.header.now = ap length c.write_head.ensures.written ∙ length-head_written c.args.header.now _ refl refl in
-    let takes = subst (λ n. Takes (g.S.Shelf.room c.args.shelf.now) c.args.filled n (g.S.Shelf.room c.add_bytes.new.shelf) c.in_ok-mark.mark) size c.in_ok-mark.ensures.room in
-    room_behind _ _ _ _ _ _ c.requires.room takes
+pub add_bytes-requires-2 : goal.add_bytes-requires-2
+add_bytes-requires-2 g c =
+    let h = c.args.header.now in
+    let n = length c.args.written.now in
+    let size : length c.write_head.new.dst ≡ head_size h = ap length c.write_head.ensures.written ∙ length-head_written h _ refl refl in
+    let first = subst (λ n. HasAdded g.S.Shelf c.args.shelf.now c.add_bytes.new.shelf c.args.buffer.now c.add_bytes.new.buffer n) size c.in_ok-add_bytes.ensures.added in
+    record { can = can_behind g.S.Shelf c.args.shelf.now c.add_bytes.new.shelf c.args.buffer.now c.add_bytes.new.buffer (24 + n) n (head_size h) n (head_size h + n) (omega arith) (omega arith) c.requires.can first }
 
-pub returns-clause-room : goal.returns-clause-room
-returns-clause-room g c =
-    let size : length c.write_head.new.dst ≡ head_size c.args.header.now = ap length c.write_head.ensures.written ∙ length-head_written c.args.header.now _ refl refl in
-    let takes = subst (λ n. Takes (g.S.Shelf.room c.args.shelf.now) c.args.filled n (g.S.Shelf.room c.add_bytes.new.shelf) c.in_ok-mark.mark) size c.in_ok-mark.ensures.room in
-    IfOk-weaker c.add_bytes-2.result _ _ (λ mark more. takes_more _ _ _ _ _ _ _ _ takes more) c.add_bytes-2.ensures.room
-
-pub returns-clause-adds : goal.returns-clause-adds
-returns-clause-adds g c =
-    let adds = subst (λ x. Adds (g.S.Shelf.told c.args.shelf.now) (take c.args.filled c.args.buffer.now) x (g.S.Shelf.told c.add_bytes.new.shelf) (take c.in_ok-mark.mark c.add_bytes.new.buffer)) c.write_head.ensures.written c.in_ok-mark.ensures.adds in
-    IfOk-weaker c.add_bytes-2.result _ _ (λ mark more. record {
-      adds = adds_more _ _ _ _ _ _ _ _ adds more;
-      length = length-catalogue c.args.header.now c.args.written.now;
-    }) c.add_bytes-2.ensures.adds
+pub returns-clause-added : goal.returns-clause-added
+returns-clause-added g c =
+    let h = c.args.header.now in
+    let size : length c.write_head.new.dst ≡ head_size h = ap length c.write_head.ensures.written ∙ length-head_written h _ refl refl in
+    let first = subst (λ n. HasAdded g.S.Shelf c.args.shelf.now c.add_bytes.new.shelf c.args.buffer.now c.add_bytes.new.buffer n) size c.in_ok-add_bytes.ensures.added in
+    on_ok_weaker c.add_bytes-2.result (λ more. added_more g.S.Shelf c.args.shelf.now c.add_bytes.new.shelf c.add_bytes-2.new.shelf _ _ _ (head_size h) (length c.args.written.now) first more) c.add_bytes-2.ensures.added

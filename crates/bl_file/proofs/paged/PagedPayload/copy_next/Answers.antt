@@ -1,6 +1,8 @@
-use Rattle.std.proofs.Common.{◌≡◌, ◌-◌, ◌≤◌, ◌<◌, ◌+◌, ◌%◌, length, take, drop, string_bytes, arith, ◌∙◌, ap, sym}
+use Rattle.std.proofs.Common.{◌≡◌, ◌-◌, ◌≤◌, ◌<◌, ◌+◌, ◌%◌, length, take, drop, arith, ◌∙◌, ap, sym}
 use Rattle.std.proofs.lemmas.List.{take_at, length-take-le}
 use Rattle.std.proofs.Math.Nat.{mod-le}
+use Rattle.bl_file.specs.Paged.{HavePageOf, page_name}
+use Rattle.bl_file.proofs.CallLemmas.{told_before}
 use Rattle.bl_file.proofs.PageLemmas.{copied_place}
 use Rattle.bl_file.proofs.paged.PagedPayload.copy_next.Goals as goal
 
@@ -19,6 +21,6 @@ returns-clause-bytes g c =
     let len : length part ≡ n = long ∙ length-take-le n c.args.dst.now (omega (arith, least)) in
     let within : place + length part ≤ p.filled = omega (arith, len, least, filled) in
     let copied : part ≡ take (length part) (drop place p.page.items) =
-    c.copy_part.ensures ∙ ap (λ k. take k (drop place c.deref.result.now)) (sym long) ∙ ap (λ items. take (length part) (drop place items)) c.deref.ensures.value in
+    c.copy_part.ensures.copied ∙ ap (λ k. take k (drop place c.deref.result.now)) (sym long) ∙ ap (λ items. take (length part) (drop place items)) c.deref.ensures.value in
     rw (take_at part (drop n c.args.dst.now) n len)
-    (copied_place (g.S.Shelf.told c.args.shelf.now) (string_bytes old.name) old.size p.page_at p.filled p.page.items c.hold_page.ensures.held c.args.at place part (omega (arith, begins, below)) within copied)
+    (copied_place (g.S.Shelf.told c.args.shelf.now) (page_name old) p.size p.page_at p.filled p.page.items (told_before (HavePageOf p) c.hold_page.ensures.stays c.hold_page.ensures.stays.held) c.args.at place part (omega (arith, begins, below)) within copied)

@@ -1,0 +1,1 @@
+"""For each command, whether it does what its oracle says: `bench/check COMMAND`."""

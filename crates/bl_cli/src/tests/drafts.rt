@@ -1,0 +1,222 @@
+// Drafts of whole files, and what is told of their entries.
+ghost use Rattle.std.specs.Prelude.{◌≡◌, IfOk};
+ghost use Rattle.bl_file.specs.Held.{IsHeldAnd};
+ghost use Rattle.bl_file.specs.Outlines.{IsSound, StandsFor};
+ghost use Rattle.bl_draft.specs.Own.{IsOwnDraft};
+
+use super::examples::{catalogue_in, changed};
+use bl_draft::{Draft, Entry, heads_of, is_of_all, kinds_of_entries, targets_of, whole_draft};
+use bl_file::{Opened, Payload, RawKind, Targets, WholePayload, open};
+use bl_layout::{Layout, copy_of};
+use bl_num::NoMemory;
+use bl_shelf::{Shelf, SteadyShelf};
+use std::alloc::Global;
+
+// Raw data in front, a group of struct 1, one of struct 2, and a raw one, with raw data and structs
+// in them. The structs are A, B and C, each with one number, and there is a type D.
+const NINE: &[u8] = b"BLENDER-v405\
+    DATA\x04\0\0\0\0\0\0\0\0\0\0\0\0\0\0\0\x01\0\0\0....\
+    OB\0\0\x04\0\0\0\0\0\0\0\0\0\0\0\x01\0\0\0\x01\0\0\0....\
+    DATA\x04\0\0\0\0\0\0\0\0\0\0\0\x02\0\0\0\x01\0\0\0....\
+    DATA\x04\0\0\0\0\0\0\0\0\0\0\0\0\0\0\0\x01\0\0\0....\
+    ME\0\0\x04\0\0\0\0\0\0\0\0\0\0\0\x02\0\0\0\x01\0\0\0....\
+    DATA\x04\0\0\0\0\0\0\0\0\0\0\0\x01\0\0\0\x01\0\0\0....\
+    DATA\x04\0\0\0\0\0\0\0\0\0\0\0\0\0\0\0\x01\0\0\0....\
+    REND\x04\0\0\0\0\0\0\0\0\0\0\0\0\0\0\0\x01\0\0\0....\
+    DATA\x04\0\0\0\0\0\0\0\0\0\0\0\x01\0\0\0\x01\0\0\0....\
+    DNA1\x54\0\0\0\0\0\0\0\0\0\0\0\0\0\0\0\x01\0\0\0\
+    SDNANAME\x01\0\0\0x\0\0\0TYPE\x05\0\0\0int\0A\0B\0C\0D\0TLEN\x04\0\x04\0\x04\0\x04\0\x04\0\
+    \0\0STRC\x03\0\0\0\x01\0\x01\0\0\0\0\0\x02\0\x01\0\0\0\0\0\x03\0\x01\0\0\0\0\0\
+    ENDB";
+
+// Where its catalogue stands, and in that the types of the first struct and of the last.
+const CATALOGUE: usize = 288;
+
+const FIRST_TYPE: usize = 60;
+
+const LAST_TYPE: usize = 76;
+
+// The numbers of the types A, C and D.
+const A: u8 = 1;
+
+const C: u8 = 3;
+
+const D: u8 = 4;
+
+// The draft of the nine nodes under a catalogue whose first struct and last struct have these types.
+fn draft_by(alloc: Global, first: u8, last: u8) -> Option<Draft> {
+    let mut shelf = SteadyShelf::new(alloc);
+    shelf.hold("a", NINE).ok()?;
+    let Ok(file) = open::<SteadyShelf, WholePayload>(alloc, &mut shelf, "a", 0) else {
+        return None;
+    };
+    let header = file.outline.header;
+    let bytes = changed(alloc, NINE, CATALOGUE + FIRST_TYPE, &[first]).ok()?;
+    let bytes = changed(alloc, &bytes, CATALOGUE + LAST_TYPE, &[last]).ok()?;
+    let Ok(catalogue) = catalogue_in(alloc, header.order, bytes.get(CATALOGUE..)?) else {
+        return None;
+    };
+    let Ok(layout) = Layout::new(alloc, &catalogue, header.width) else {
+        return None;
+    };
+    let Ok(catalogue) = copy_of(alloc, layout.catalogue()) else {
+        return None;
+    };
+    whole_draft(alloc, &file, header, catalogue).ok()
+}
+
+// Whether an entry is a node of the one file.
+fn is_node(entry: &Entry, want: u32) -> bool {
+    match entry {
+        Entry::Source { file, node } => *file == 0 && *node == want,
+        _ => false,
+    }
+}
+
+// Whether a draft is there, with these nodes and these images.
+fn is_draft(draft: &Option<Draft>, nodes: &[u32], images: &[u32]) -> bool {
+    let Some(draft) = draft else {
+        return false;
+    };
+    let [own] = draft.images.as_slice() else {
+        return false;
+    };
+    let entries = draft.entries.as_slice();
+    entries.len() == nodes.len()
+        && entries
+            .iter()
+            .zip(nodes)
+            .all(|(entry, n)| is_node(entry, *n))
+        && own.as_slice() == images
+}
+
+// Whether a draft is there that has all of so many nodes, each as its own image.
+fn is_whole(draft: &Option<Draft>, count: usize) -> bool {
+    match draft {
+        Some(draft) => draft.images.as_slice().len() == 1 && is_of_all(draft, count),
+        None => false,
+    }
+}
+
+#[test]
+fn keeps_what_a_catalogue_names(rt: HostRuntime) {
+    // Under its own catalogue all.
+    let own = draft_by(rt.alloc(), A, C);
+    let all = [0, 1, 2, 3, 4, 5, 6, 7, 8];
+    assert!(rt; is_draft(&own, &all, &[1, 2, 3, 4, 5, 6, 7, 8, 9]));
+    assert!(rt; is_whole(&own, 9));
+    assert!(rt; !is_whole(&own, 8));
+
+    // C is at number 0, which no node has as its struct: its group goes with its head.
+    let other = draft_by(rt.alloc(), C, D);
+    assert!(rt; is_draft(&other, &[0, 1, 3, 7, 8], &[1, 2, 0, 3, 0, 0, 0, 4, 5]));
+    assert!(rt; !is_whole(&other, 9));
+}
+
+// Two groups: a mesh at 12, which stood at 0x100 and names the raw block at 52, which stood at
+// 0x200, and a mesh at 80, which stood at 0x300 and names nothing. A mesh is an ID with a pointer.
+const MESHES: &[u8] = b"BLENDER-v405\
+    ME\0\0\x10\0\0\0\0\x01\0\0\0\0\0\0\x01\0\0\0\x01\0\0\0MEa\0\0\0\0\0\0\x02\0\0\0\0\0\0\
+    DATA\x04\0\0\0\0\x02\0\0\0\0\0\0\0\0\0\0\x01\0\0\0\x01\x02\x03\x04\
+    ME\0\0\x10\0\0\0\0\x03\0\0\0\0\0\0\x01\0\0\0\x01\0\0\0MEb\0\0\0\0\0\0\0\0\0\0\0\0\0\
+    DNA1\x60\0\0\0\0\0\0\0\0\0\0\0\0\0\0\0\x01\0\0\0\
+    SDNANAME\x03\0\0\0name[8]\0id\0*co\0\0TYPE\x04\0\0\0char\0int\0ID\0Mesh\0\0\0\0\
+    TLEN\x01\0\x04\0\x08\0\x10\0STRC\x02\0\0\0\x02\0\x01\0\0\0\0\0\
+    \x03\0\x02\0\x02\0\x01\0\x01\0\x02\0\
+    ENDB";
+
+// The draft of all nodes of a file, under the file's own header and catalogue.
+fn own_draft<P>(alloc: Global, file: &Opened<P>) -> Result<Draft, NoMemory>
+    requires { IsSound file.now.outline }
+    ensures { IfOk result (IsOwnDraft file.now.outline) }
+{
+    let outline = &file.outline;
+    let catalogue = copy_of(alloc, outline.layout.catalogue())?;
+    whole_draft(alloc, file, outline.header, catalogue)
+}
+
+// Whether the entries of the file's own draft stood at these places.
+fn stand_at<P>(alloc: Global, file: &Opened<P>, want: &[u64]) -> Option<bool>
+    requires { IsSound file.now.outline }
+{
+    let draft = own_draft(alloc, file).ok()?;
+    let heads = heads_of(alloc, &file.outline, &draft).ok()?;
+    Some(heads.len() == want.len() && heads.iter().zip(want).all(|(head, at)| head.at == *at))
+}
+
+// Whether an address names this from an entry of the file's own draft.
+fn is_named<P>(
+    alloc: Global,
+    file: &Opened<P>,
+    entry: u32,
+    address: u64,
+    want: Option<u32>,
+) -> Option<bool>
+    requires { IsSound file.now.outline }
+{
+    let draft = own_draft(alloc, file).ok()?;
+    let targets = targets_of(alloc, &file.outline, &draft).ok()?;
+    if (entry as usize) < draft.entries.as_slice().len() {
+        Some(targets.target(entry, address) == want)
+    } else {
+        None
+    }
+}
+
+// Whether addresses name what they should in the file of two meshes: from the first its raw block,
+// the other mesh, which is an ID, and nothing; from the other the first, and not the raw block,
+// which is of another group and no ID.
+fn are_named<P>(alloc: Global, file: &Opened<P>) -> Option<bool>
+    requires { IsSound file.now.outline }
+{
+    Some(
+        is_named(alloc, file, 0, 0x200, Some(1))?
+            && is_named(alloc, file, 0, 0x300, Some(2))?
+            && is_named(alloc, file, 0, 0, None)?
+            && is_named(alloc, file, 2, 0x100, Some(0))?
+            && is_named(alloc, file, 2, 0x200, None)?,
+    )
+}
+
+// Whether the entries of the file's own draft have these kinds.
+fn have_kinds<S: Shelf, P: Payload>(
+    alloc: Global,
+    file: &mut Opened<P>,
+    shelf: &mut S,
+    want: &[RawKind],
+) -> Option<bool>
+    requires sound { IsSound file.old.outline }
+    requires size { P.file_size file.old.payload ≡ file.old.outline.size }
+    requires held { IsHeldAnd (S.told shelf.old) (P.file_name file.old.payload)
+        (λ b. P.agrees file.old.payload b × StandsFor b file.old.outline) }
+{
+    let draft = match own_draft(alloc, file) {
+        Ok(draft) => draft,
+        Err(_) => return None,
+    };
+    let outline = &file.outline;
+    let heads = heads_of(alloc, outline, &draft).ok()?;
+    let targets = targets_of(alloc, outline, &draft).ok()?;
+    let payload = &mut file.payload;
+    let kinds = kinds_of_entries(alloc, outline, &draft, &heads, &targets, payload, shelf).ok()?;
+    Some(kinds.as_slice() == want)
+}
+
+// Whether all of the file of two meshes is told of as it should be.
+fn are_told<S: Shelf>(alloc: Global, shelf: &mut S) -> Option<bool> {
+    let Ok(mut file) = open::<S, WholePayload>(alloc, shelf, "a", 0) else {
+        return None;
+    };
+    let heads = stand_at(alloc, &file, &[12, 52, 80])?;
+    let names = are_named(alloc, &file)?;
+    let kinds = [RawKind::Bytes, RawKind::Numbers(4), RawKind::Bytes];
+    Some(heads && names && have_kinds(alloc, &mut file, shelf, &kinds)?)
+}
+
+#[test]
+fn tells_of_its_entries(rt: HostRuntime) -> Result<(), NoMemory> {
+    let mut shelf = SteadyShelf::new(rt.alloc());
+    shelf.hold("a", MESHES)?;
+    assert_eq!(rt; are_told(rt.alloc(), &mut shelf), Some(true));
+    Ok(())
+}

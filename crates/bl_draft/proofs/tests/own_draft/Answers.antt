@@ -1,5 +1,0 @@
-use Rattle.std.proofs.Common.{refl, ◌∙◌}
-use Rattle.bl_draft.proofs.tests.own_draft.Goals as goal
-
-pub returns : goal.returns
-returns g c = c.whole_draft.ensures.own refl (c.in_ok-catalogue.ensures ∙ c.catalogue.ensures.is)

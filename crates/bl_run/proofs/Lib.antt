@@ -1,0 +1,11 @@
+pub mod Built
+pub mod CommandLaws
+pub mod Conversions
+pub mod ConvertLaws
+pub mod Gathers
+pub mod Inputs
+pub mod Obeying
+pub mod Opens
+pub mod Runs
+pub mod SchemaLaws
+pub mod Written

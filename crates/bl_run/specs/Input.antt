@@ -1,0 +1,79 @@
+-- The input of a command: its checks, each fault of opening it as an ending, when it can be read, and why it is refused.
+-- This project's own.
+use Rattle.std.specs.Prelude.{◌≡◌, ◌⊎◌, ◌≤◌, ◌<◌, ⊤, ℕ, List, [], ◌∷◌, length, Option, Some, None, option_map, unwrap_or}
+use Rattle.std.specs.FinMap.{get}
+use Rattle.bl_format.specs.Limits.{most_blocks, most_input_bytes}
+use Rattle.bl_format.specs.Nodes.{File, Accepted}
+use Rattle.bl_commands.specs.declared.ending.Ending.{Ending}
+use Rattle.bl_commands.specs.declared.ending.Ending.TheVariants as endings
+use Rattle.bl_commands.specs.declared.ending.FileFault.TheVariants as faults
+use Rattle.bl_commands.specs.declared.ending.Quantity.TheVariants.{InputBytes}
+use Rattle.bl_commands.specs.Texts.{head_ending, block_ending, sdna_ending, layout_ending}
+use Rattle.bl_shelf.specs.Told.{Held}
+use Rattle.bl_file.specs.declared.fault.OpenFault.{OpenFault}
+use Rattle.bl_file.specs.declared.fault.OpenFault.TheVariants as opens
+use Rattle.bl_file.specs.Opening.{open_fault}
+use Rattle.bl_file.specs.Refusals.{HasOpenFault}
+
+-- how a fault of a file ends a run, with the file's shelf name
+abbrev pub open_ending : List ℕ → OpenFault → Ending
+open_ending file opens.NoMemory = endings.NoMemory
+open_ending file opens.Absent = endings.Absent file
+open_ending file opens.Device = endings.Device
+open_ending file (opens.TooLarge sum) = endings.PastLimit InputBytes sum
+open_ending file (opens.Head fault) = head_ending file fault
+open_ending file (opens.Block fault) = block_ending file fault
+open_ending file opens.NoCatalogue = endings.BadFile file faults.NoCatalogue
+open_ending file (opens.TwoCatalogues at) = endings.BadFile file (faults.TwoCatalogues at)
+open_ending file (opens.Sdna fault) = sdna_ending file fault
+open_ending file (opens.Layout fault owner member) = layout_ending file owner member fault
+open_ending file (opens.BadStruct at) = endings.BadFile file (faults.BadStruct at)
+open_ending file (opens.ShortBlock at) = endings.BadFile file (faults.ShortBlock at)
+
+-- the bytes under a name, and none where it isn't held
+abbrev pub bytes_held : Held → List ℕ → List ℕ
+bytes_held held name = unwrap_or (get held name) []
+
+-- how the first fault of the file under a name ends a run
+abbrev pub opening_check : Held → List ℕ → Option Ending
+opening_check held input = option_map (open_ending input) (open_fault 0 (get held input))
+
+-- the checks of a command with one input
+abbrev pub input_checks : Held → List ℕ → List (Option Ending)
+input_checks held input = opening_check held input ∷ []
+
+-- an ending is that of the first check, unless memory or a device gave it
+abbrev pub IsChecked : Option Ending → Ending → Type 0
+IsChecked first endings.NoMemory = ⊤
+IsChecked first endings.Device = ⊤
+IsChecked first ending = first ≡ Some ending
+
+-- ---- when it can be read
+
+-- the bytes are accepted as this file; with the catalogue's it has no more blocks than the limit
+pub record IsAcceptedFile (b : List ℕ) (f : File) : Type 0 where
+  pub accepted : Accepted b f
+  pub few : length f.nodes < most_blocks
+
+-- the input is held, no longer than the limit, and accepted
+pub record IsReadable (held : Held) (input : List ℕ) : Type 0 where
+  pub b : List ℕ
+  pub file : File
+  pub is_held : get held input ≡ Some b
+  pub small : length b ≤ most_input_bytes
+  pub accepted : IsAcceptedFile b file
+
+-- ---- why it is refused; where bytes have several faults the checks decide which is told
+
+-- the file is held, and its bytes have a fault, which gives the ending
+pub record IsHeldWithFault (held : Held) (file : List ℕ) (ending : Ending) : Type 0 where
+  pub b : List ℕ
+  pub is_held : get held file ≡ Some b
+  pub fault : OpenFault
+  pub has : HasOpenFault 0 b fault
+  pub gives : ending ≡ open_ending file fault
+
+-- the file isn't held, or is held and has a fault
+abbrev pub HasInputCause : Held → List ℕ → Ending → Type 0
+HasInputCause held file ending =
+    ((get held file ≡ None) × (ending ≡ endings.Absent file)) ⊎ IsHeldWithFault held file ending

@@ -1,0 +1,12 @@
+pub mod Blame
+pub mod Commands
+pub mod Convert
+pub mod Input
+pub mod Meaning
+pub mod Obeying
+pub mod Opened
+pub mod Printing
+pub mod Rendering
+pub mod Run
+pub mod Schema
+pub mod Staging
