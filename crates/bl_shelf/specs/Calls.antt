@@ -1,11 +1,9 @@
--- The words of Frames and Causes at a bound `S: Shelf` or `O: Sink`. This project's own.
+-- The words of Frames and Causes at a bound `S: Shelf`. This project's own.
 use Rattle.std.specs.Prelude.{◌≡◌, Result}
-use Rattle.bl_shelf.specs.Causes.{HasCause, HasSinkCause}
+use Rattle.bl_shelf.specs.Causes.{HasCause}
 use Rattle.bl_shelf.specs.Frames.{KeepsAs, HoldsAs}
 use Rattle.bl_shelf.specs.declared.shelf.Shelf.{Ghosts}
 use Rattle.bl_shelf.specs.declared.shelf.ShelfFault.{ShelfFault}
-use Rattle.bl_shelf.specs.declared.sink.Sink.{Ghosts as SinkGhosts}
-use Rattle.bl_shelf.specs.declared.sink.SinkFault.{SinkFault}
 
 -- the shelf is as before, and none of its counts fell
 abbrev pub Keeps : {S : Type 0} → Ghosts S → S → S → Type 0
@@ -22,7 +20,3 @@ IsQuiet g s s' = (g.faults s' ≡ g.faults s) × (g.misses s' ≡ g.misses s)
 -- what an answer says of the shelf's counts
 abbrev pub Counts : {S T : Type 0} → Ghosts S → S → S → Result T ShelfFault → Type 0
 Counts g s s' = HasCause (g.faults s) (g.faults s') (g.misses s) (g.misses s')
-
--- what an answer says of the sink's count
-abbrev pub CountsPuts : {O T : Type 0} → SinkGhosts O → O → O → Result T SinkFault → Type 0
-CountsPuts h o o' = HasSinkCause (h.faults o) (h.faults o')

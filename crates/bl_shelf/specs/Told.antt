@@ -57,7 +57,3 @@ commit_in t = record { held = files_with t.held t.staged; staged = None }
 -- the files that are told
 abbrev pub held_of : Option Told → Option Held
 held_of t = option_map (λ s. s.held) t
-
--- the files that are told, with these bytes under the name
-abbrev pub with_file : List ℕ → List ℕ → Option Held → Option Held
-with_file name bytes held = option_map (λ files. insert files name bytes) held

@@ -1,5 +1,5 @@
 // Files in memory, the newest first.
-ghost use Rattle.std.specs.Prelude.{◌≡◌, ◌+◌, ◌<◌, ◌≤◌, All, length, take, drop, option_copied};
+ghost use Rattle.std.specs.Prelude.{◌≡◌, option_copied};
 ghost use Rattle.std.specs.FinMap.{get};
 ghost use Rattle.bl_shelf.specs.NamedBytes.{held_in};
 
@@ -19,14 +19,4 @@ pub(crate) fn bytes_in<'a>(files: &'a [NamedBytes], name: &[u8]) -> Option<&'a [
         }
     }
     None
-}
-
-// Fills with the bytes from a place on.
-pub(crate) fn copy_part(bytes: &[u8], at: u64, dst: &mut [u8])
-    requires { at + length dst.old ≤ length bytes.now }
-    ensures copied { dst.new ≡ take (length dst.old) (drop at bytes.now) }
-    ensures below { All (λ byte. byte < 256) bytes.now }
-{
-    let rest = &bytes[at as usize..];
-    dst.copy_from_slice(&rest[..dst.len()]);
 }

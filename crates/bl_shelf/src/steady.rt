@@ -4,9 +4,9 @@ ghost use Rattle.std.specs.Option.{ForSome};
 ghost use Rattle.std.specs.Vec.{vec_len, vec_capacity};
 ghost use Rattle.bl_shelf.specs.NamedBytes.{held_in, staged_of};
 
-use crate::named_bytes::{NamedBytes, bytes_in, copy_part};
+use crate::named_bytes::{NamedBytes, bytes_in};
 use crate::{Shelf, ShelfFault};
-use bl_num::NoMemory;
+use bl_num::{NoMemory, copy_part};
 use std::alloc::Global;
 
 /// A shelf in memory, whose calls fail only for want of memory.
@@ -152,11 +152,11 @@ impl Shelf for SteadyShelf {
         ensures misses { steady_misses self.new ≡ steady_misses self.old }
         ensures fault { OnErr result (result ≡ Err ShelfFault.NoMemory) }
     {
-        let told = Vec::from_slice(self.alloc, name.as_bytes())?;
+        let staged_name = Vec::from_slice(self.alloc, name.as_bytes())?;
         let name = Vec::from_slice(self.alloc, name.as_bytes())?;
         let bytes = Vec::with_capacity(self.alloc, total as usize)?;
         self.files.reserve(1)?;
-        self.names.push(told)?;
+        self.names.push(staged_name)?;
         self.room = total;
         self.staged = Some(NamedBytes { name, bytes });
         Ok(())
