@@ -6,7 +6,7 @@ use Rattle.std.specs.List.{slice_index_or, AllPairs, position, position_or_len, 
 use Rattle.std.specs.Str.{bytes_eq}
 use Rattle.std.proofs.lemmas.List.{take_at, drop_at, length-append, drop-drop, length-drop, length-replicate, append-nil, length-map}
 use Rattle.std.proofs.lemmas.List.Elements.{All-head, All-tail}
-use Rattle.std.proofs.lemmas.Bool.{le-ltb, lt-ltb, false_from_ne_true}
+use Rattle.std.proofs.lemmas.Bool.{le-ltb, lt-ltb, false_from_ne_true, ne_eqb}
 use Rattle.std.proofs.lemmas.Bool.Decides.{Decides-eqb}
 use Rattle.std.proofs.lemmas.Slice.Eq.{bytes_eq-Decides}
 use Rattle.bl_num.specs.declared.number.Order.{Order}
@@ -43,14 +43,11 @@ pub index_at-bytes_of : (order : Order) (n v at : ℕ) (p back : List ℕ)
 unfolding index_at
 index_at-bytes_of order n v at p back inside lt stands = rw (count_at-bytes_of order 2 v at p back (omega arith) (omega (arith, lt)) stands, lt-ltb v n inside) refl
 
-text_eq : (xs : List ℕ) → bytes_eq xs xs ≡ true
+pub text_eq : (xs : List ℕ) → bytes_eq xs xs ≡ true
 text_eq xs = (bytes_eq-Decides xs xs).1 refl
 
-text_ne : (xs ys : List ℕ) → xs ≢ ys → bytes_eq xs ys ≡ false
+pub text_ne : (xs ys : List ℕ) → xs ≢ ys → bytes_eq xs ys ≡ false
 text_ne xs ys ne = false_from_ne_true (bytes_eq xs ys) (λ e. ne ((bytes_eq-Decides xs ys).0 e))
-
-number_ne : (x y : ℕ) → x ≢ y → (x == y) ≡ false
-number_ne x y ne = false_from_ne_true (x == y) (λ e. ne ((Decides-eqb x y).0 e))
 
 pub tag_at-tag : (tag : List ℕ) (at : ℕ) (p back : List ℕ)
     → length tag ≡ 4 → drop at p ≡ tag ++ back → tag_at tag p at ≡ Ok (at + 4)
@@ -66,7 +63,7 @@ zero_place : (name back : List ℕ)
     → IsName name → position_or_len (λ b. b == 0) (name ++ 0 ∷ back) ≡ length name
 zero_place [] back is = refl
 zero_place (b ∷ bs) back is =
-    let differs : (b == 0) ≡ false = number_ne b 0 (All-head (λ b. b ≢ 0) b bs is) in
+    let differs : (b == 0) ≡ false = ne_eqb b 0 (All-head (λ b. b ≢ 0) b bs is) in
     let more : position_or_len (λ b. b == 0) (bs ++ 0 ∷ back) ≡ length bs = zero_place bs back (All-tail (λ b. b ≢ 0) b bs is) in
     rw (differs, more) (omega arith)
 
@@ -178,7 +175,7 @@ structs_at-all order c p (s ∷ ss) before at back fit new differ stands =
     let third : drop (at + 2 + 2) p ≡ members ++ behind-members = ap (λ (n : ℕ). drop (at + 2 + n) p) (sym lb) ∙ behind p b (members ++ behind-members) (at + 2) second in
     let all-members = many_at-all (member_at order (length c.types) (length c.names) p) (member_written order) (MemberFits c) p (member_at-member_written order c p) s.members (at + 2 + 2) behind-members fits.members third in
     let fourth : drop (at + 2 + 2 + length members) p ≡ others ++ back = behind p members behind-members (at + 2 + 2) third in
-    let still-new : All (λ (u : StructEntry). list_any (λ x. x == u.type_number) (s.type_number ∷ before) ≡ false) ss = λ k d lt. rw (number_ne s.type_number (slice_index_or ss k d).type_number (pairs_head Differ s ss differ k d lt), All-tail IsNew s ss new k d lt) refl in
+    let still-new : All (λ (u : StructEntry). list_any (λ x. x == u.type_number) (s.type_number ∷ before) ≡ false) ss = λ k d lt. rw (ne_eqb s.type_number (slice_index_or ss k d).type_number (pairs_head Differ s ss differ k d lt), All-tail IsNew s ss new k d lt) refl in
     let rest = structs_at-all order c p ss (s.type_number ∷ before) (at + 2 + 2 + length members) back (All-tail (StructFits c) s ss fit) still-new (pairs_tail Differ s ss differ) fourth in
     let end : at + 2 + 2 + length members + length others ≡ at + length (write s ++ others) = omega (arith, length-append (write s) others, length-append (a ++ b) members, length-append a b, la, lb) in
     rw (number, fresh, count, all-members, rest, end) refl

@@ -19,6 +19,8 @@ use Rattle.bl_format.specs.declared.catalogue.StructEntry.{StructEntry}
 use Rattle.bl_format.specs.declared.catalogue.MemberEntry.{MemberEntry}
 use Rattle.bl_format.specs.Words.{part, number_at, is_one_of, aligned_place, zeros}
 use Rattle.bl_format.specs.Schema.{◌>>=◌, Reading, ensure, tag_at, count_at, index_at, name_by, name_at, many_at, type_names_at, member_at, structs_at, type_entries, names_at, types_at, lengths_at, all_structs_at, catalogue_of, catalogue_written, name_written, member_written, struct_written, padding_of, with_padding, names_part, types_part, lengths_part, structs_part}
+use Rattle.bl_format.proofs.CatalogueRead.{bind_ok, ok_same, entries_len}
+use Rattle.bl_format.proofs.CatalogueSpelled.{entries_names, entries_lengths}
 
 -- all bytes are below 256
 abbrev pub AreBytes : List ℕ → Type 0
@@ -41,14 +43,6 @@ takes_none : (p : List ℕ) (at : ℕ) → at ≤ length p → Takes p at at []
 takes_none p at le = record { end = omega arith; within = le; bytes = All-nil (λ b. b < 256) }
 
 -- ---- what an answer that is Ok says of its parts
-
-bind_ok : {A B : Type 0} (r : Result A SdnaFault) (f : A → Result B SdnaFault) (y : B)
-    → (r >>= f) ≡ Ok y → (x : A) × (r ≡ Ok x) × (f x ≡ Ok y)
-bind_ok (Ok x) f y e = (x, refl, e)
-bind_ok {A} {B} (Err z) f y e = absurd (let e' : ◌≡◌ {A = Result B SdnaFault} (Err z) (Ok y) = e in cc)
-
-ok_same : {A : Type 0} (x y : A) → ◌≡◌ {A = Result A SdnaFault} (Ok x) (Ok y) → x ≡ y
-ok_same {A} x y e = let e' : ◌≡◌ {A = Result A SdnaFault} (Ok x) (Ok y) = e in cc
 
 not_cut : {A : Type 0} (cut : Bool) (z : SdnaFault) (r : Result A SdnaFault) (y : A) → cond cut (Err z) r ≡ Ok y → (cut ≡ false) × (r ≡ Ok y)
 not_cut {A} true z r y e = absurd (let e' : ◌≡◌ {A = Result A SdnaFault} (Err z) (Ok y) = e in cc)
@@ -100,7 +94,8 @@ index_takes order n p at v e =
     let same : first.0 ≡ v = ok_same first.0 v second.2 in
     count_takes order 2 p at v (first.1 ∙ ap (λ (x : ℕ × ℕ). Ok x) same)
 
-length-part : (p : List ℕ) (at n : ℕ) → at + n ≤ length p → length (part p at n) ≡ n
+-- a part has the bytes that are asked for
+pub length-part : (p : List ℕ) (at n : ℕ) → at + n ≤ length p → length (part p at n) ≡ n
 length-part p at n le = omega (arith, length-take n (drop at p), length-drop at p)
 
 name_takes : (p : List ℕ) (at : ℕ) (v : List ℕ × ℕ) → AreBytes p → name_at p at ≡ Ok v → Takes p at v.1 (name_written v.0)
@@ -262,24 +257,6 @@ all_structs_take order types names p at v e =
 
 -- ---- types of names and lengths
 
-entries_count : (ns : List (List ℕ)) (ls : List ℕ) → length ns ≡ length ls → length (type_entries ns ls) ≡ length ns
-entries_count [] ls e = refl
-entries_count (x ∷ xs) [] e = absurd (omega arith)
-entries_count (x ∷ xs) (l ∷ ls) e = omega (arith, entries_count xs ls (omega arith))
-
-entries_names : (ns : List (List ℕ)) (ls : List ℕ) → length ns ≡ length ls
-    → flat_map (λ (t : TypeEntry). name_written t.name) (type_entries ns ls) ≡ flat_map name_written ns
-entries_names [] ls e = refl
-entries_names (x ∷ xs) [] e = absurd (omega arith)
-entries_names (x ∷ xs) (l ∷ ls) e = ap (λ (ys : List ℕ). name_written x ++ ys) (entries_names xs ls (omega arith))
-
-entries_lengths : (order : Order) (ns : List (List ℕ)) (ls : List ℕ) → length ns ≡ length ls
-    → flat_map (λ (t : TypeEntry). bytes_of order 2 t.length) (type_entries ns ls) ≡ flat_map (bytes_of order 2) ls
-entries_lengths order [] [] e = refl
-entries_lengths order [] (l ∷ ls) e = absurd (omega arith)
-entries_lengths order (x ∷ xs) [] e = absurd (omega arith)
-entries_lengths order (x ∷ xs) (l ∷ ls) e = ap (λ (ys : List ℕ). bytes_of order 2 l ++ ys) (entries_lengths order xs ls (omega arith))
-
 -- ---- the whole payload
 
 numbers_bytes : (order : Order) (ts : List TypeEntry) → AreBytes (flat_map (λ (t : TypeEntry). bytes_of order 2 t.length) ts)
@@ -348,7 +325,7 @@ catalogue_of-PartsFit order p c all e =
     let b = types_takes order p names.0.1 types.0 all types.1 in
     let d = lengths_take order (length types.0.0) p types.0.1 lengths.0 lengths.1 in
     let f = all_structs_take order (length types.0.0) (length names.0.0) p lengths.0.1 structs.0 structs.1 in
-    let count : length (type_entries types.0.0 lengths.0.0) ≡ length types.0.0 = entries_count types.0.0 lengths.0.0 (sym d.1) in
+    let count : length (type_entries types.0.0 lengths.0.0) ≡ length types.0.0 = entries_len types.0.0 lengths.0.0 (sym d.1) in
     let b' : Takes p (aligned_place names.0.1) types.0.1 (types_part order read) = rw (count, entries_names types.0.0 lengths.0.0 (sym d.1)) b in
     let d' : Takes p (aligned_place types.0.1) lengths.0.1 (lengths_part order read) = rw (entries_lengths order types.0.0 lengths.0.0 (sym d.1)) d.0 in
     subst (λ (x : Catalogue). PartsFit order x (length p)) (ok_same read c structs.2)

@@ -6,7 +6,7 @@ use Rattle.std.specs.Prelude.{◌||◌, All, codes, nat_lt, ◌==◌, if◌then�
 use Rattle.std.specs.List.{slice_index_or, AllPairs, position_or_len, list_any}
 use Rattle.std.specs.Str.{bytes_eq}
 use Rattle.std.proofs.lemmas.List.Elements.{All-head, All-tail, All-cons}
-use Rattle.std.proofs.lemmas.Bool.{ltb-true}
+use Rattle.std.proofs.lemmas.Bool.{ltb-true, or_parts, not-true}
 use Rattle.std.proofs.lemmas.List.Kept.{AllPairs-cons}
 use Rattle.std.proofs.lemmas.Slice.Eq.{bytes_eq-Decides}
 use Rattle.std.proofs.lemmas.Bool.Decides.{Decides-eqb}
@@ -20,7 +20,7 @@ use Rattle.bl_format.specs.declared.catalogue.MemberEntry.{MemberEntry}
 use Rattle.bl_format.specs.Words.{part, number_at, is_one_of, aligned_place}
 use Rattle.bl_format.specs.declared.catalogue.SdnaFault.TheVariants.{CutShort, TwoTypes, TwoStructs}
 use Rattle.bl_format.proofs.CatalogueBack.{pairs_head, pairs_tail, catalogue_of-catalogue_written}
-use Rattle.bl_format.specs.Schema.{◌>>=◌, Reading, ensure, count_at, index_at, name_by, name_at, many_at, type_names_at, member_at, structs_at, type_entries, names_at, types_at, lengths_at, all_structs_at, catalogue_of, catalogue_written, tag_at, IsName, MemberFits, StructFits, IsCatalogue}
+use Rattle.bl_format.specs.Schema.{◌>>=◌, Reading, ensure, count_at, index_at, name_by, name_at, many_at, type_names_at, member_at, structs_at, type_entries, names_at, types_at, lengths_at, all_structs_at, catalogue_of, catalogue_written, tag_at, IsName, MemberFits, StructFits, IsCatalogue, CanBeRead}
 
 IsByte : ℕ → Type 0
 IsByte b = b < 256
@@ -101,14 +101,6 @@ many_all {A} one P holds (suc n) at v e =
     let ih = many_all one P holds n first.0.1 others.0 others.1 in
     subst (λ (x : List A × ℕ). All P x.0 × (length x.0 ≡ suc n)) (ok_same (first.0.0 ∷ others.0.0, others.0.1) v others.2) (All-cons P first.0.0 others.0.0 (holds at first.0 first.1) ih.0, omega (arith, ih.1))
 
-or_false : (a b : Bool) → (a || b) ≡ false → (a ≡ false) × (b ≡ false)
-or_false true b e = absurd (let e' : true ≡ false = e in cc)
-or_false false b e = (refl, e)
-
-not_true : (b : Bool) → not b ≡ true → b ≡ false
-not_true true e = absurd (let e' : false ≡ true = e in cc)
-not_true false e = refl
-
 text_differs : (x y : List ℕ) → bytes_eq y x ≡ false → x ≢ y
 text_differs x y e same = absurd (let t : bytes_eq y x ≡ true = (bytes_eq-Decides y x).1 (sym same) in let f : true ≡ false = sym t ∙ e in cc)
 
@@ -135,8 +127,8 @@ type_names_ok p (suc n) before at v e =
     let others = bind_ok (type_names_at p (name ∷ before) n first.0.1) _ v test.2 in
     let names = others.0.0 in
     let ih = type_names_ok p n (name ∷ before) first.0.1 others.0 others.1 in
-    let is-new : is_one_of name before ≡ false = not_true (is_one_of name before) (ensure_ok (not (is_one_of name before)) (TwoTypes at) test.0 test.1) in
-    let parts : (k : ℕ) (d : List ℕ) → k < length names → (bytes_eq (slice_index_or names k d) name ≡ false) × (is_one_of (slice_index_or names k d) before ≡ false) = λ k d lt. or_false (bytes_eq (slice_index_or names k d) name) (is_one_of (slice_index_or names k d) before) (ih.new k d lt) in
+    let is-new : is_one_of name before ≡ false = not-true (is_one_of name before) (ensure_ok (not (is_one_of name before)) (TwoTypes at) test.0 test.1) in
+    let parts : (k : ℕ) (d : List ℕ) → k < length names → (bytes_eq (slice_index_or names k d) name ≡ false) × (is_one_of (slice_index_or names k d) before ≡ false) = λ k d lt. or_parts (bytes_eq (slice_index_or names k d) name) (is_one_of (slice_index_or names k d) before) (ih.new k d lt) in
     subst (λ (x : List (List ℕ) × ℕ). AreTypeNames before (suc n) x.0) (ok_same (name ∷ names, others.0.1) v others.2)
     (record {
       count = omega (arith, ih.count);
@@ -186,8 +178,8 @@ structs_ok order c types names p (suc n) before at v et en all e =
     let few = count_lt order 2 p first.0.1 count.0 all count.1 in
     let fits = many_all (member_at order types names p) (MemberFits c) (λ at' v' e'. member_ok order c types names p at' v' et en all e') count.0.0 count.0.1 members.0 members.1 in
     let ih = structs_ok order c types names p n (t ∷ before) members.0.1 others.0 et en all others.1 in
-    let is-new : list_any (λ x. x == t) before ≡ false = not_true (list_any (λ x. x == t) before) (ensure_ok (not (list_any (λ x. x == t) before)) (TwoStructs at) test.0 test.1) in
-    let parts : (k : ℕ) (d : StructEntry) → k < length ss → ((t == (slice_index_or ss k d).type_number) ≡ false) × (list_any (λ x. x == (slice_index_or ss k d).type_number) before ≡ false) = λ k d lt. or_false (t == (slice_index_or ss k d).type_number) (list_any (λ x. x == (slice_index_or ss k d).type_number) before) (ih.new k d lt) in
+    let is-new : list_any (λ x. x == t) before ≡ false = not-true (list_any (λ x. x == t) before) (ensure_ok (not (list_any (λ x. x == t) before)) (TwoStructs at) test.0 test.1) in
+    let parts : (k : ℕ) (d : StructEntry) → k < length ss → ((t == (slice_index_or ss k d).type_number) ≡ false) × (list_any (λ x. x == (slice_index_or ss k d).type_number) before ≡ false) = λ k d lt. or_parts (t == (slice_index_or ss k d).type_number) (list_any (λ x. x == (slice_index_or ss k d).type_number) before) (ih.new k d lt) in
     subst (λ (x : List StructEntry × ℕ). AreStructs c before (suc n) x.0) (ok_same (s ∷ ss, others.0.1) v others.2)
     (record {
       count = omega (arith, ih.count);
@@ -288,6 +280,10 @@ IsCatalogue-catalogue_of order p c all e =
       structs = s.1.fit;
       struct_types_differ = s.1.differ;
     })
+
+-- a catalogue that can be read is one by the grammar
+pub IsCatalogue-can_be_read : (c : Catalogue) → CanBeRead c → IsCatalogue c
+IsCatalogue-can_be_read c read = IsCatalogue-catalogue_of read.order read.payload c read.bytes read.reads
 
 -- what was read, written in either order and read again, is the same
 pub catalogue_of-written_again : (order other : Order) (p : List ℕ) (c : Catalogue)

@@ -187,13 +187,13 @@ structs_spelled order types names p (suc n) before at v bytes e =
 
 -- ---- the types of names and lengths
 
-entries_names : (names : List (List ℕ)) (lengths : List ℕ) → length names ≡ length lengths
+pub entries_names : (names : List (List ℕ)) (lengths : List ℕ) → length names ≡ length lengths
     → flat_map (λ (t : TypeEntry). name_written t.name) (type_entries names lengths) ≡ flat_map name_written names
 entries_names [] ls e = refl
 entries_names (x ∷ xs) [] e = absurd (omega (arith, e))
 entries_names (x ∷ xs) (l ∷ ls) e = ap (λ (t : List ℕ). name_written x ++ t) (entries_names xs ls (omega (arith, e)))
 
-entries_lengths : (order : Order) (names : List (List ℕ)) (lengths : List ℕ) → length names ≡ length lengths
+pub entries_lengths : (order : Order) (names : List (List ℕ)) (lengths : List ℕ) → length names ≡ length lengths
     → flat_map (λ (t : TypeEntry). bytes_of order 2 t.length) (type_entries names lengths) ≡ flat_map (bytes_of order 2) lengths
 entries_lengths order [] [] e = refl
 entries_lengths order [] (l ∷ ls) e = absurd (omega (arith, e))

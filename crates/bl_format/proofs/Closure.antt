@@ -4,28 +4,17 @@
 use Rattle.std.proofs.Common.{◌≡◌, ℕ, zero, suc, ◌≤◌, ◌<◌, Bool, true, false, cond, eqb, List, [], ◌∷◌, ◌++◌, length, refl, ap, subst, arith, inl, inr, eq-eqb}
 use Rattle.std.specs.Prelude.{filter, ◌||◌, ◌⊎◌}
 use Rattle.std.specs.List.{list_any}
-use Rattle.std.proofs.lemmas.Bool.{cases_lt, eqb-true}
+use Rattle.std.proofs.lemmas.Bool.{cases_lt, eqb-true, or_cases, or_left, or_right}
 use Rattle.std.proofs.lemmas.List.{length-append}
 use Rattle.bl_format.specs.Words.{numbers_below, contains, one_link_further, numbers_reached, IsChain}
 use Rattle.bl_format.proofs.NumbersBelow.{length-numbers_below}
-
-or_true : (a b : Bool) → (a || b) ≡ true → (a ≡ true) ⊎ (b ≡ true)
-or_true true b e = inl refl
-or_true false b e = inr e
-
-or_left : (a b : Bool) → a ≡ true → (a || b) ≡ true
-or_left a b e = rw e refl
-
-or_right : (a b : Bool) → b ≡ true → (a || b) ≡ true
-or_right true b e = refl
-or_right false b e = e
 
 -- an element of a list that passes is an element of the filtered list
 pub contains-filter : (p : ℕ → Bool) (xs : List ℕ) (y : ℕ)
     → contains xs y ≡ true → p y ≡ true → contains (filter p xs) y ≡ true
 contains-filter p [] y h e = absurd cc
 contains-filter p (x ∷ xs) y h e =
-    elim (or_true (eqb x y) (contains xs y) h) [
+    elim (or_cases (eqb x y) (contains xs y) h) [
       | inl same ↦ (let is : x ≡ y = eqb-true x y same in rw (is, e) (or_left (eqb y y) (contains (filter p xs) y) (rw is at same)))
       | inr later ↦ with_more (p x) (contains-filter p xs y later e)
     ]
@@ -139,7 +128,7 @@ filter-contains p (x ∷ xs) y h = go (p x) refl h (filter-contains p xs y)
 
     go : (b : Bool) → p x ≡ b → contains (cond b (x ∷ filter p xs) (filter p xs)) y ≡ true
         → (contains (filter p xs) y ≡ true → Passes xs) → Passes (x ∷ xs)
-    go true e h others = elim (or_true (eqb x y) (contains (filter p xs) y) h) [
+    go true e h others = elim (or_cases (eqb x y) (contains (filter p xs) y) h) [
       | inl same ↦ (or_left (eqb x y) (contains xs y) same, (let is : x ≡ y = eqb-true x y same in rw (← is) e))
       | inr more ↦ later (others more)
     ]
@@ -149,14 +138,15 @@ filter-contains p (x ∷ xs) y h = go (p x) refl h (filter-contains p xs y)
 any-contains : (p : ℕ → Bool) (xs : List ℕ)
     → list_any p xs ≡ true → (x : ℕ) × (contains xs x ≡ true) × (p x ≡ true)
 any-contains p [] h = absurd cc
-any-contains p (x ∷ xs) h = elim (or_true (p x) (list_any p xs) h) [
+any-contains p (x ∷ xs) h = elim (or_cases (p x) (list_any p xs) h) [
   | inl here ↦ (x, or_left (eqb x x) (contains xs x) (eq-eqb x x refl), here)
   | inr later ↦ (let rest = any-contains p xs later in (rest.0, or_right (eqb x rest.0) (contains xs rest.0) rest.1, rest.2))
 ]
 
-contains-any : (p : ℕ → Bool) (xs : List ℕ) (x : ℕ) → contains xs x ≡ true → p x ≡ true → list_any p xs ≡ true
+-- any passes of a list that has one that passes
+pub contains-any : (p : ℕ → Bool) (xs : List ℕ) (x : ℕ) → contains xs x ≡ true → p x ≡ true → list_any p xs ≡ true
 contains-any p [] x h e = absurd cc
-contains-any p (z ∷ zs) x h e = elim (or_true (eqb z x) (contains zs x) h) [
+contains-any p (z ∷ zs) x h e = elim (or_cases (eqb z x) (contains zs x) h) [
   | inl same ↦ (let is : z ≡ x = eqb-true z x same in or_left (p z) (list_any p zs) (rw is e))
   | inr later ↦ or_right (p z) (list_any p zs) (contains-any p zs x later e)
 ]
@@ -183,7 +173,7 @@ numbers_reached-chain leads n roots zero y h =
     record { root = y; others = []; is_root = (filter-contains (contains roots) (numbers_below n) y h).1; short = omega arith; chain = refl }
 numbers_reached-chain leads n roots (suc k) y h =
     let passes = (filter-contains (λ z. contains (numbers_reached leads n k roots) z || list_any (λ x. leads x z) (numbers_reached leads n k roots)) (numbers_below n) y h).1 in
-    elim (or_true (contains (numbers_reached leads n k roots) y) (list_any (λ x. leads x y) (numbers_reached leads n k roots)) passes) [
+    elim (or_cases (contains (numbers_reached leads n k roots) y) (list_any (λ x. leads x y) (numbers_reached leads n k roots)) passes) [
       | inl before ↦ (let r = numbers_reached-chain leads n roots k y before in
           record { root = r.root; others = r.others; is_root = r.is_root; short = omega (arith, r.short); chain = r.chain })
       | inr link ↦ (let from = any-contains (λ x. leads x y) (numbers_reached leads n k roots) link in

@@ -1,7 +1,7 @@
 -- A file that reads as a header and blocks is spelled so: the grammar says no more than the reading.
 use Rattle.std.proofs.Common.{◌≡◌, ℕ, ◌+◌, ◌-◌, ◌*◌, ◌/◌, ◌%◌, ◌^◌, ◌≤◌, ◌<◌, Bool, true, false, not, ◌&&◌, ◌||◌, ◌==◌, if◌then◌else◌, List, [], ◌∷◌, ◌++◌, length, take, drop, Option, Some, None, Result, Ok, Err, All, codes, slice_index, refl, sym, ap, subst, ◌∙◌, append_assoc, arith}
 use Rattle.std.proofs.Math.Seq.{take-add}
-use Rattle.std.proofs.lemmas.Bool.{ltb-false, leb-true, eqb-true}
+use Rattle.std.proofs.lemmas.Bool.{ltb-false, leb-true, eqb-true, and_parts}
 use Rattle.std.proofs.lemmas.List.{length-drop, length-take, take-take, drop-take, drop-drop, take-append-drop, drop_more}
 use Rattle.std.proofs.lemmas.List.Elements.{All-drop}
 use Rattle.std.proofs.lemmas.Slice.Eq.{bytes_eq-Decides}
@@ -64,13 +64,8 @@ order_cases m true q ep eq e = sym (eqb-true m 118 ep)
 order_cases m false true ep eq e = sym (eqb-true m 86 eq)
 order_cases m false false ep eq e = absurd (cc)
 
-both_true : (p q : Bool) → (p && q) ≡ true → (p ≡ true) × (q ≡ true)
-both_true true true e = (refl, refl)
-both_true true false e = absurd (cc)
-both_true false q e = absurd (cc)
-
 digit_range : (d : ℕ) → is_ascii_digit d ≡ true → (48 ≤ d) × (d ≤ 57)
-digit_range d e = let t = both_true _ _ e in (leb-true 48 d t.0, leb-true d 57 t.1)
+digit_range d e = let t = and_parts _ _ e in (leb-true 48 d t.0, leb-true d 57 t.1)
 
 digits_back : (v x y z : ℕ) → (48 ≤ x) × (x ≤ 57) → (48 ≤ y) × (y ≤ 57) → (48 ≤ z) × (z ≤ 57) → 100 * (x - 48) + 10 * (y - 48) + (z - 48) ≡ v
     → (x ≡ 48 + v / 100) × (y ≡ 48 + v / 10 % 10) × (z ≡ 48 + v % 10)

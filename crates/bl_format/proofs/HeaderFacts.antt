@@ -2,7 +2,7 @@
 use Rattle.std.proofs.Common.{◌≡◌, ◌≤◌, ℕ, Bool, true, false, ◌||◌, cond, not, List, length, Option, Some, None, Result, Ok, Err, refl, ap, arith}
 use Rattle.std.specs.Prelude.{nat_lt, codes, take, slice_index, ◌==◌, if◌then◌else◌}
 use Rattle.std.specs.Str.{bytes_eq}
-use Rattle.std.proofs.lemmas.Bool.{ltb-false}
+use Rattle.std.proofs.lemmas.Bool.{ltb-false, or_parts}
 use Rattle.bl_format.specs.declared.file.Header.{Header}
 use Rattle.bl_format.specs.declared.file.HeadFault.{HeadFault}
 use Rattle.bl_num.specs.declared.number.Order.TheVariants.{Little, Big}
@@ -20,10 +20,6 @@ passed false fault rest h is = (refl, is)
 unmarked : (mark : Option ℕ) (rest : Result Header HeadFault) (h : Header) → unless_bad_mark mark rest ≡ Ok h → rest ≡ Ok h
 unmarked (Some at) rest h is = cc
 unmarked None rest h is = is
-
-neither : (p q : Bool) → (p || q) ≡ false → (p ≡ false) × (q ≡ false)
-neither true q is = cc
-neither false q is = (refl, is)
 
 version_of : Result Header HeadFault → ℕ
 version_of (Ok h) = h.version
@@ -50,8 +46,8 @@ header_facts b h is =
     let begins = passed (short || other) BadMagic marks h plain.1 in
     let marked = unmarked (bad_mark b) (marked_header b) h begins.1 in
     let versioned = passed (nat_lt v first_version || nat_lt last_version v) (BadVersion v) found h marked in
-    let long : short ≡ false = (neither short other begins.0).0 in
-    let bounds = neither (nat_lt v first_version) (nat_lt last_version v) versioned.0 in
+    let long : short ≡ false = (or_parts short other begins.0).0 in
+    let bounds = or_parts (nat_lt v first_version) (nat_lt last_version v) versioned.0 in
     let same : v ≡ h.version = ap version_of versioned.1 in
     record {
       oldest = omega (arith, ltb-false v first_version bounds.0, same);

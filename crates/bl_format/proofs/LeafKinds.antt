@@ -5,6 +5,7 @@ use Rattle.std.specs.Prelude.{◌⊎◌, ◌||◌, ◌&&◌, flat_map, option_ma
 use Rattle.std.specs.List.{find}
 use Rattle.std.specs.Str.{bytes_eq}
 use Rattle.std.proofs.lemmas.List.Elements.{All-nil, All-cons, All-append, All-map}
+use Rattle.std.proofs.lemmas.Bool.{or_cases, or_parts}
 use Rattle.bl_num.specs.declared.number.Width.{Width}
 use Rattle.bl_num.specs.Numbers.{IsWholeLength, pointer_bytes}
 use Rattle.bl_format.specs.declared.catalogue.Catalogue.{Catalogue}
@@ -105,12 +106,8 @@ AllLengthsFit : List (List ℕ × Basic) → Type 0
 AllLengthsFit [] = Unit {0}
 AllLengthsFit (e ∷ es) = LengthsFit e.1 × AllLengthsFit es
 
-either : (a b : Bool) → (a || b) ≡ true → (a ≡ true) ⊎ (b ≡ true)
-either true b e = inl refl
-either false b e = inr e
-
 contains_first : (a n : ℕ) (ls : List ℕ) → contains (a ∷ ls) n ≡ true → (n ≡ a) ⊎ (contains ls n ≡ true)
-contains_first a n ls e = elim (either (eqb a n) (contains ls n) e) [ inl h ↦ inl (sym (eqb-true a n h)) | inr h ↦ inr h ]
+contains_first a n ls e = elim (or_cases (eqb a n) (contains ls n) e) [ inl h ↦ inl (sym (eqb-true a n h)) | inr h ↦ inr h ]
 
 contains_one : (a n : ℕ) → contains (a ∷ []) n ≡ true → n ≡ a
 contains_one a n e = elim (contains_first a n [] e) [ inl h ↦ h | inr h ↦ absurd (cc) ]
@@ -168,10 +165,6 @@ kind_fits w false depth t (Some (IsFloat k)) inner n fits good =
     (refl, rw same (fits (IsFloat k) refl))
 kind_fits w false depth t (Some IsVoid) inner n fits good = tt
 
-second_false : (a b : Bool) → (a || b) ≡ false → b ≡ false
-second_false true b e = absurd (cc)
-second_false false b e = e
-
 own_leaf_fits : (c : Catalogue) (w : Width) (s k : ℕ)
     → has_bad_length c s k ≡ false → FitsKind w (kind_of c s k) (element_size c w s k)
 unfolding kind_of element_size content_of
@@ -180,7 +173,7 @@ own_leaf_fits c w s k good =
     let name : List ℕ = (type_entry c t).name in
     let n : ℕ = (type_entry c t).length in
     kind_fits w (name_of c s k).pointer (name_of c s k).depth t (basic_named name) (struct_of_type c t) n (basic_fits name)
-    (second_false (is_some (basic_named (struct_name c s))) (not (name_of c s k).pointer && is_bad_length (basic_named name) n) good)
+    (or_parts (is_some (basic_named (struct_name c s))) (not (name_of c s k).pointer && is_bad_length (basic_named name) n) good).1
 
 -- where no member has a fault, the size of each leaf's elements is one that its kind has
 pub named_leaves-fit : (c : Catalogue) (w : Width) (s : ℕ)

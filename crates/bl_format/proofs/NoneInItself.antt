@@ -4,7 +4,7 @@
 use Rattle.std.proofs.Common.{◌≡◌, ℕ, zero, suc, ◌+◌, ◌≤◌, ◌<◌, Bool, true, false, cond, eqb, List, [], ◌∷◌, ◌++◌, length, Option, Some, None, refl, sym, subst, ◌-◌, arith, inl, inr, eqb-true, eq-eqb}
 use Rattle.std.specs.Prelude.{◌⊎◌, ◌||◌, max, map, fold, filter_map}
 use Rattle.std.specs.List.{cons_option}
-use Rattle.std.proofs.lemmas.Bool.{cases_lt}
+use Rattle.std.proofs.lemmas.Bool.{cases_lt, or_cases, or_right}
 use Rattle.std.proofs.lemmas.List.Folds.{list_any-append}
 use Rattle.std.proofs.lemmas.List.Elements.{filter_map-append}
 use Rattle.bl_num.specs.declared.number.Width.{Width}
@@ -54,14 +54,6 @@ one_more_passes p q (suc n) s h lt out is =
 
 -- ---- lists of numbers
 
-or_true : (a b : Bool) → (a || b) ≡ true → (a ≡ true) ⊎ (b ≡ true)
-or_true true b e = inl refl
-or_true false b e = inr e
-
-or_right : (a b : Bool) → b ≡ true → (a || b) ≡ true
-or_right true b e = refl
-or_right false b e = e
-
 contains_itself : (x : ℕ) (xs : List ℕ) → contains (x ∷ xs) x ≡ true
 contains_itself x xs = rw (eq-eqb x x refl) refl
 
@@ -88,7 +80,7 @@ given_last f n t h = go (f n) refl h
   where
     go : (o : Option ℕ) → f n ≡ o → contains (cons_option o []) t ≡ true → IsGiven f (suc n) t
     go None e h = absurd (cc)
-    go (Some u) e h = elim (or_true (eqb u t) false h) [
+    go (Some u) e h = elim (or_cases (eqb u t) false h) [
       | inl same ↦ record { number = n; below = omega arith; gives = (let is : u ≡ t = eqb-true u t same in rw (← is) e) }
       | inr more ↦ absurd (cc)
     ]
@@ -97,13 +89,13 @@ given : (f : ℕ → Option ℕ) (n t : ℕ) → contains (filter_map f (numbers
 given f zero t h = absurd (cc)
 given f (suc n) t h =
     let both : (contains (filter_map f (numbers_below n)) t || contains (filter_map f (n ∷ [])) t) ≡ true = rw (filter_map-append f (numbers_below n) (n ∷ []), contains-append (filter_map f (numbers_below n)) (filter_map f (n ∷ [])) t) at h in
-    elim (or_true (contains (filter_map f (numbers_below n)) t) (contains (filter_map f (n ∷ [])) t) both) [
+    elim (or_cases (contains (filter_map f (numbers_below n)) t) (contains (filter_map f (n ∷ [])) t) both) [
       | inl before ↦ (let g = given f n t before in record { number = g.number; below = omega (arith, g.below); gives = g.gives })
       | inr last ↦ given_last f n t last
     ]
 
 -- what a function gives for a number below n is among what it gives for all of them
-contains-given : (f : ℕ → Option ℕ) (n k t : ℕ) → k < n → f k ≡ Some t → contains (filter_map f (numbers_below n)) t ≡ true
+pub contains-given : (f : ℕ → Option ℕ) (n k t : ℕ) → k < n → f k ≡ Some t → contains (filter_map f (numbers_below n)) t ≡ true
 contains-given f zero k t lt e = absurd (omega arith)
 contains-given f (suc n) k t lt e =
     rw (filter_map-append f (numbers_below n) (n ∷ []), contains-append (filter_map f (numbers_below n)) (filter_map f (n ∷ [])) t)
@@ -140,7 +132,7 @@ reaches_itself c s lt =
 reaches_further : (c : Catalogue) (s t y : ℕ) → s < length c.structs → holds_struct c s t ≡ true → below_member c t y ≡ true → below_member c s y ≡ true
 reaches_further c s t y lt inside h =
     let r = numbers_reached-chain (holds_struct c) (length c.structs) (t ∷ []) (length c.structs) y h in
-    elim (or_true (eqb t r.root) false r.is_root) [
+    elim (or_cases (eqb t r.root) false r.is_root) [
       | inl same ↦ (
           let is : t ≡ r.root = eqb-true t r.root same in
           let chain : IsChain (holds_struct c) t r.others y = subst (λ (z : ℕ). IsChain (holds_struct c) z r.others y) (sym is) r.chain in

@@ -5,7 +5,7 @@ use Rattle.std.proofs.Common.{◌≡◌, ◌≢◌, ℕ, zero, suc, ◌+◌, ◌
 use Rattle.std.specs.Prelude.{◌||◌, map, flat_map, ◌==◌}
 use Rattle.std.specs.List.{list_any, enumerate_from}
 use Rattle.std.specs.Str.{bytes_eq}
-use Rattle.std.proofs.lemmas.Bool.{cases_lt}
+use Rattle.std.proofs.lemmas.Bool.{cases_lt, or_parts}
 use Rattle.std.proofs.lemmas.Grind.{flat_map-append}
 use Rattle.std.proofs.lemmas.List.{map-append, get_or-map, length-map}
 use Rattle.std.proofs.lemmas.List.Concat.{flat_map_single}
@@ -23,6 +23,7 @@ use Rattle.bl_format.specs.Graph.{Value, Target, Naming, Path, path_of, Cell, ce
 use Rattle.bl_format.proofs.MemberPasses.{member_passes}
 use Rattle.bl_format.proofs.LeavesApart.{flat_map-numbers_below}
 use Rattle.bl_format.proofs.LeafKinds.{each_number, leaves_within-hold}
+use Rattle.bl_format.proofs.CatalogueBack.{text_eq}
 
 -- the paths of all elements of a leaf
 abbrev pub leaf_paths : NamedLeaf → List Path
@@ -80,9 +81,6 @@ first_element (p ∷ ps) = p.1
 
 by_element : (j k : ℕ) (p q : Path) → j < k → first_element p ≡ j → first_element q ≡ k → p ≢ q
 by_element j k p q lt is is' e = let same : j ≡ k = sym is ∙ ap first_element e ∙ is' in omega arith
-
-bytes_eq-same : (a : List ℕ) → bytes_eq a a ≡ true
-bytes_eq-same a = (bytes_eq-Decides a a).1 refl
 
 -- ---- a leaf behind one member more
 
@@ -188,23 +186,19 @@ member_differs inside c w s k has h = unless_empty (member_size c w s k == 0)
     unless_empty true = record { pairs = AllPairs-nil (λ (p q : Path). p ≢ q); begin = All-nil (λ (p : Path). first_name p ≡ (name_of c s k).identifier) }
     unless_empty false = by_inner (inner_struct c s k)
 
-either : (a b : Bool) → (a || b) ≡ false → (a ≡ false) × (b ≡ false)
-either true b e = absurd (cc)
-either false b e = (refl, e)
-
 not_among : (text : List ℕ) (f : ℕ → List ℕ) (n k : ℕ) → is_one_of text (map f (numbers_below n)) ≡ false → k < n → text ≢ f k
 not_among text f zero k e lt same = omega arith
 not_among text f (suc n) k e lt same =
     let split : (list_any (bytes_eq text) (map f (numbers_below n)) || (bytes_eq text (f n) || false)) ≡ false = rw (map-append f (numbers_below n) (n ∷ []), list_any-append (bytes_eq text) (map f (numbers_below n)) (f n ∷ [])) at e in
-    let both = either (list_any (bytes_eq text) (map f (numbers_below n))) (bytes_eq text (f n) || false) split in
+    let both = or_parts (list_any (bytes_eq text) (map f (numbers_below n))) (bytes_eq text (f n) || false) split in
     elim (cases_lt k n) [
       | inl below ↦ not_among text f n k both.0 below same
       | inr le ↦ (
           let last : k ≡ n = omega arith in
           let is : text ≡ f n = same ∙ ap f last in
-          let differs : bytes_eq text (f n) ≡ false = (either (bytes_eq text (f n)) false both.1).0 in
+          let differs : bytes_eq text (f n) ≡ false = (or_parts (bytes_eq text (f n)) false both.1).0 in
           let equal : bytes_eq text text ≡ false = rw (← is) at differs in
-          let yes : bytes_eq text text ≡ true = bytes_eq-same text in
+          let yes : bytes_eq text text ≡ true = text_eq text in
           cc)
     ]
 

@@ -88,10 +88,11 @@ type_back c from to t d is e lt = go (struct_of_type c t) refl
         ∙ ap (λ (x : TypeEntry). x.length) (get_or_default c.types t (record { name = []; length = 0 }) d lt)
 
 -- a type of another length
-abbrev with_length : TypeEntry → ℕ → TypeEntry
+abbrev pub with_length : TypeEntry → ℕ → TypeEntry
 with_length t n = record t { length = n }
 
-same_catalogue : (a b : Catalogue) → a.names ≡ b.names → a.types ≡ b.types → a.structs ≡ b.structs → a ≡ b
+-- catalogues with the same parts are the same
+pub same_catalogue : (a b : Catalogue) → a.names ≡ b.names → a.types ≡ b.types → a.structs ≡ b.structs → a ≡ b
 same_catalogue a b names types structs = λ i. record { names = names i; types = types i; structs = structs i }
 
 -- brought to another width and back, a catalogue is what it was
