@@ -3,7 +3,7 @@ use Rattle.std.proofs.Common.{◌≡◌, ◌≢◌, ℕ, zero, suc, ◌+◌, ◌
 use Rattle.std.specs.Prelude.{◌&&◌, ◌||◌, ◌==◌, map}
 use Rattle.std.specs.List.{enumerate_from}
 use Rattle.std.specs.Option.{option_or}
-use Rattle.std.proofs.lemmas.Bool.{false_from_ne_true}
+use Rattle.std.proofs.lemmas.Bool.{false_from_ne_true, ne_eqb}
 use Rattle.std.proofs.lemmas.Bool.Decides.{Decides-eqb}
 use Rattle.std.proofs.lemmas.List.{get_or-map, length-map}
 use Rattle.std.proofs.lemmas.List.FromFn.{length-enumerate_from, get_or-enumerate_from}
@@ -26,9 +26,6 @@ or_none : (o : Option ℕ) → option_or o None ≡ o
 or_none None = refl
 or_none (Some x) = refl
 
-differs : (a b : ℕ) → a ≢ b → (a == b) ≡ false
-differs a b differ = false_from_ne_true (a == b) (λ is. differ (eqb-true a b is))
-
 -- from a place on, marks have the addresses of their places
 abbrev pub HaveAddresses : ℕ → List Mark → Type 0
 HaveAddresses i [] = Unit {0}
@@ -41,7 +38,7 @@ module _ (extra : Mark → Bool) (t : ℕ) where
 
   test_fails : (m : Mark) (i : ℕ) → t ≢ i → m.address ≡ address_of (Some i) → test m ≡ false
   test_fails m i differ is =
-      rw (differs m.address (address_of (Some t)) (λ same. differ (omega (arith, is, same)))) (and_false (extra m))
+      rw (ne_eqb m.address (address_of (Some t)) (λ same. differ (omega (arith, is, same)))) (and_false (extra m))
 
   none_behind : (i : ℕ) (ms : List Mark) → t < i → HaveAddresses i ms → last_from test i ms ≡ None
   none_behind i [] lt have = refl
@@ -70,7 +67,7 @@ target_of-address : (ms : List Mark) (g t : ℕ) (d : Mark) → HaveAddresses 0 
     → ((get_or ms t d).group == g || (get_or ms t d).is_an_id) ≡ true → target_of ms g (address_of (Some t)) ≡ Some t
 unfolding target_of
 target_of-address ms g t d have lt scope =
-    let some : (address_of (Some t) == 0) ≡ false = differs (address_of (Some t)) 0 (λ same. omega (arith, same)) in
+    let some : (address_of (Some t) == 0) ≡ false = ne_eqb (address_of (Some t)) 0 (λ same. omega (arith, same)) in
     let in_group = one_there (λ (n : Mark). n.group == g) t t 0 ms d (omega arith) lt have in
     let id = one_there (λ (n : Mark). n.is_an_id) t t 0 ms d (omega arith) lt have in
     rw (some, in_group, id) (either_found ((get_or ms t d).group == g) (get_or ms t d).is_an_id t scope)

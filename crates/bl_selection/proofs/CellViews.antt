@@ -5,6 +5,7 @@ use Rattle.std.specs.Prelude.{◌==◌, map, flat_map}
 use Rattle.std.specs.List.{enumerate_from}
 use Rattle.std.proofs.lemmas.List.{map-append}
 use Rattle.std.proofs.lemmas.List.Elements.{All-head, All-tail}
+use Rattle.std.proofs.lemmas.Bool.{eqb-false}
 use Rattle.bl_num.specs.declared.number.Width.{Width}
 use Rattle.bl_format.specs.declared.catalogue.Catalogue.{Catalogue}
 use Rattle.bl_format.specs.declared.raw.View.{View}
@@ -69,9 +70,6 @@ pub index_under-some : (c from : Catalogue) (s : ℕ) → s ≢ 0 → index_unde
 index_under-some c from zero some = absurd (some refl)
 index_under-some c from (suc s) some = refl
 
-pub not_equal : (s : ℕ) → (s == 0) ≡ false → s ≢ 0
-not_equal s is same = let e : eqb 0 0 ≡ false = rw same at is in absurd (cc)
-
 module _ (files : List File) (d : Draft) (views : List View) where
   abbrev c : Catalogue
   c = d.catalogue
@@ -94,7 +92,7 @@ module _ (files : List File) (d : Draft) (views : List View) where
           → flat_map (views_of c) (cond b [] (source_cells files d e i n))
           ≡ views_of_node c w (cond b raw (Struct code (struct_name (file_at files i).catalogue (node_at files i n).index) g (map fields (cond b [] (source_cells files d e i n)))))
       by_index true raw code g is says = sym says
-      by_index false raw code g is says = source_views e i n (struct_number c (struct_name (file_at files i).catalogue (node_at files i n).index)) (index_under-some c (file_at files i).catalogue (node_at files i n).index (not_equal (node_at files i n).index is))
+      by_index false raw code g is says = source_views e i n (struct_number c (struct_name (file_at files i).catalogue (node_at files i n).index)) (index_under-some c (file_at files i).catalogue (node_at files i n).index (eqb-false (node_at files i n).index 0 is))
   entry_views-node e (entries.Made m) named =
       let made : Unit {0} → ℕ → NamedLeaf → ℕ → Value Target = λ u j y k. given_or y (given_or y (zero_of None y) (given_at m j k)) (override_at d e 0 j k) in
       views-each c (named_leaves c w m.s) made (tt ∷ [])

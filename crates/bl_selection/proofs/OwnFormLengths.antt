@@ -5,6 +5,7 @@ use Rattle.std.specs.Prelude.{◌==◌, map, flat_map, zip}
 use Rattle.std.proofs.Math.Nat.{div-mul-le_self}
 use Rattle.std.proofs.lemmas.List.{length-append, length-drop, length-map}
 use Rattle.std.proofs.lemmas.List.Elements.{All-nil, All-cons, All-append, All-head, All-tail, All-map, All-weaker}
+use Rattle.std.proofs.lemmas.Bool.{eqb-false}
 use Rattle.bl_num.specs.declared.number.Order.{Order}
 use Rattle.bl_num.specs.declared.number.Width.{Width}
 use Rattle.bl_num.specs.Numbers.{pointer_bytes, number_of, bytes_of}
@@ -23,6 +24,7 @@ use Rattle.bl_format.specs.Layout.{NamedLeaf, named_leaves, struct_length, struc
 use Rattle.bl_format.specs.Nodes.{File, payload, group_of, raw_kind}
 use Rattle.bl_format.specs.Graph.{Target, Value, Naming, Fields, Struct, Raw, Cell, value_by, leaf_value, leaf_bytes, fields, struct_cells, pieces, contents_by, form_of, file_codes, file_names, node_elements, node_cells, node_of}
 use Rattle.bl_format.proofs.LeafBytes.{length-leaf_bytes}
+use Rattle.bl_format.proofs.NumbersBelow.{length-numbers_below}
 use Rattle.bl_selection.specs.Written.{address_of, element_written, contents_written}
 use Rattle.bl_selection.specs.Fits.{FillsPlace, Slot, slots}
 use Rattle.bl_selection.specs.GraphFits.{node_payload, elements_written}
@@ -30,8 +32,6 @@ use Rattle.bl_selection.proofs.WrittenBytes.{Fills, length-struct_written}
 use Rattle.bl_selection.proofs.FieldsBack.{field_of, struct_fields-slots}
 use Rattle.bl_selection.proofs.ElementsBack.{length-flat_map_even}
 use Rattle.bl_selection.proofs.CellsFit.{numbers_below-lt}
-use Rattle.bl_selection.proofs.CellViews.{not_equal}
-use Rattle.bl_selection.proofs.EntriesAsNodes.{length-numbers_below}
 use Rattle.bl_selection.proofs.SourcesFit.{HoldsElements, IsElement, node_elements-are}
 use Rattle.bl_selection.proofs.RebuiltStands.{NodeStands, payload_len, holds_elements}
 
@@ -154,4 +154,4 @@ node_short f views k x no_fault bytes stands named = by_index (x.index == 0) ref
     by_index : (b : Bool) → (x.index == 0) ≡ b
         → IsCount (length (node_payload h c (cond b (Raw x.code g x.count kind (contents_by kind (file_names f g) (form_of h) (payload h f.bytes x))) (Struct x.code (struct_name c x.index) g es))))
     by_index true is = let short = stands.block.len in contents_short h kind (file_names f g) (payload h f.bytes x) (omega (arith, len, short))
-    by_index false is = struct_short (not_equal x.index is)
+    by_index false is = struct_short (eqb-false x.index 0 is)

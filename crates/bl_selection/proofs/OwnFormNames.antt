@@ -5,7 +5,7 @@ use Rattle.std.specs.Prelude.{◌==◌, ◌||◌, ◌&&◌, map, filter, count_b
 use Rattle.std.specs.List.{enumerate_from}
 use Rattle.std.specs.Option.{option_or}
 use Rattle.std.proofs.Math.Path.{fun_ext}
-use Rattle.std.proofs.lemmas.Bool.{cases_lt}
+use Rattle.std.proofs.lemmas.Bool.{cases_lt, and_parts}
 use Rattle.std.proofs.lemmas.List.{ext_get_or, get_or-map, get_or_push, get_or_append_left, length-map}
 use Rattle.std.proofs.lemmas.List.FromFn.{length-enumerate_from, get_or-enumerate_from}
 use Rattle.std.proofs.lemmas.List.Sums.{length-filter}
@@ -15,26 +15,13 @@ use Rattle.bl_format.specs.Words.{numbers_below, last_from, last_place}
 use Rattle.bl_format.specs.Nodes.{File, Mark, mark, marks, group_of, is_id, target_of}
 use Rattle.bl_format.specs.Graph.{Target, file_codes, file_names}
 use Rattle.bl_format.proofs.NewLengths.{map_same}
+use Rattle.bl_format.proofs.NumbersBelow.{get_or-by, length-numbers_below}
 use Rattle.bl_selection.specs.declared.draft.Draft.{Draft}
 use Rattle.bl_selection.specs.declared.draft.Entry.{Entry}
 use Rattle.bl_selection.specs.declared.draft.Entry.TheVariants as entries
 use Rattle.bl_selection.specs.Selection.{no_head, index_under, entry_code, entry_codes, entry_count, entry_index, entry_at, entry_is_id, image_of, image_numbered, entry_group, target_in_scope, entry_names, has_struct, head_of, head_has_struct, is_kept, kept_nodes, own_images, draft_of, whole_selection}
-use Rattle.bl_selection.proofs.EntriesAsNodes.{length-numbers_below}
 
 -- ---- lists
-
--- number k stands at place k
-pub number_at_place : (n k d : ℕ) → k < n → get_or (numbers_below n) k d ≡ k
-number_at_place zero k d lt = absurd (omega arith)
-number_at_place (suc n) k d lt = elim (cases_lt k n) [
-  | inl less ↦ (get_or_append_left (numbers_below n) (n ∷ []) d k (omega (arith, length-numbers_below n)) ∙ number_at_place n k d less)
-  | inr most ↦ (let is : n ≡ k = omega arith in get_or_push (numbers_below n) n d k (length-numbers_below n ∙ is) ∙ is)
-]
-
--- what a function gives for number k stands at place k
-by_number : {X : Type 0} (f : ℕ → X) (n k : ℕ) (d : X) → k < n → get_or (map f (numbers_below n)) k d ≡ f k
-by_number f n k d lt =
-    get_or-map f (numbers_below n) k 0 d (omega (arith, length-numbers_below n)) ∙ ap f (number_at_place n k 0 lt)
 
 -- what a function gives for place k and the element there
 pub at_place : {X Y : Type 0} (f : ℕ × X → Y) (xs : List X) (k : ℕ) (d : X) (e : Y) → k < length xs
@@ -92,10 +79,6 @@ record IsNamed (ms : List Mark) (g t : ℕ) (d : Mark) : Type 0 where
   within : t < length ms
   in_scope : ((get_or ms t d).group == g || (get_or ms t d).is_an_id) ≡ true
 
-first_of_both : (a b : Bool) → (a && b) ≡ true → a ≡ true
-first_of_both true b e = refl
-first_of_both false b e = absurd (cc)
-
 or_true : (a : Bool) → (a || true) ≡ true
 or_true true = refl
 or_true false = refl
@@ -107,7 +90,7 @@ module _ (ms : List Mark) (g address t : ℕ) (d : Mark) where
       let place = found.place in
       let is : place ≡ t = omega (arith, found.is) in
       let passes : ((get_or ms t d).group == g && (get_or ms t d).address == address) ≡ true = rw is at found.passes in
-      let first : ((get_or ms t d).group == g) ≡ true = first_of_both ((get_or ms t d).group == g) ((get_or ms t d).address == address) passes in
+      let first : ((get_or ms t d).group == g) ≡ true = (and_parts ((get_or ms t d).group == g) ((get_or ms t d).address == address) passes).0 in
       record { within = omega (arith, found.within, is); in_scope = ap (λ b. b || (get_or ms t d).is_an_id) first }
 
   an_id : last_place (λ n. n.is_an_id && n.address == address) ms ≡ Some t → IsNamed ms g t d
@@ -116,7 +99,7 @@ module _ (ms : List Mark) (g address t : ℕ) (d : Mark) where
       let place = found.place in
       let is : place ≡ t = omega (arith, found.is) in
       let passes : ((get_or ms t d).is_an_id && (get_or ms t d).address == address) ≡ true = rw is at found.passes in
-      let id : (get_or ms t d).is_an_id ≡ true = first_of_both (get_or ms t d).is_an_id ((get_or ms t d).address == address) passes in
+      let id : (get_or ms t d).is_an_id ≡ true = (and_parts (get_or ms t d).is_an_id ((get_or ms t d).address == address) passes).0 in
       record {
         within = omega (arith, found.within, is);
         in_scope = ap (λ b. (get_or ms t d).group == g || b) id ∙ or_true ((get_or ms t d).group == g);
@@ -191,10 +174,10 @@ module _ (f : File) (own : HaveOwnIndex f) where
   length-entries = length-map (numbers_below (length f.nodes)) _ ∙ length-numbers_below (length f.nodes)
 
   pub entry_at-own : (k : ℕ) → k < length f.nodes → entry_at d k ≡ entries.Source 0 k
-  entry_at-own k lt = by_number (entries.Source 0) (length f.nodes) k (entries.Raw [] []) lt
+  entry_at-own k lt = get_or-by (entries.Source 0) (length f.nodes) k (entries.Raw [] []) lt
 
   image_of-own : (k : ℕ) → k < length f.nodes → image_of d 0 k ≡ Some k
-  image_of-own k lt = ap image_numbered (by_number (λ k. suc k) (length f.nodes) k 0 lt)
+  image_of-own k lt = ap image_numbered (get_or-by (λ k. suc k) (length f.nodes) k 0 lt)
 
   -- they have the codes of the nodes
   pub codes-own : entry_codes files d ≡ file_codes f

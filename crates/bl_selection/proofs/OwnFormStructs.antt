@@ -10,7 +10,8 @@ use Rattle.bl_format.specs.declared.catalogue.StructEntry.{StructEntry}
 use Rattle.bl_format.specs.declared.catalogue.TypeEntry.{TypeEntry}
 use Rattle.bl_format.specs.Schema.{CanBeRead, IsCatalogue}
 use Rattle.bl_format.specs.Layout.{type_entry, struct_name, struct_named, struct_number}
-use Rattle.bl_format.proofs.CatalogueRead.{IsCatalogue-catalogue_of}
+use Rattle.bl_format.proofs.CatalogueRead.{IsCatalogue-catalogue_of, IsCatalogue-can_be_read}
+use Rattle.bl_format.proofs.CatalogueBack.{text_ne}
 
 -- the first that passes is the one before which none does
 first_is : {X : Type 0} (p : X → Bool) (xs : List X) (i k : ℕ) (d : X) → k < length xs → p (get_or xs k d) ≡ true
@@ -35,9 +36,6 @@ apart f xs i j d pairs other lt within = elim (cases_lt i j) [
   ]
 ]
 
-texts_differ : (x y : List ℕ) → x ≢ y → bytes_eq x y ≡ false
-texts_differ x y other = false_from_ne_true (bytes_eq x y) (λ is. other ((bytes_eq-Decides x y).0 is))
-
 module _ (c : Catalogue) (is : IsCatalogue c) (s : ℕ) (lt : s < length c.structs) where
   -- a struct before has another name
   earlier : (d : StructEntry) (j : ℕ) → j < s
@@ -47,7 +45,7 @@ module _ (c : Catalogue) (is : IsCatalogue c) (s : ℕ) (lt : s < length c.struc
       let second = is.structs s d lt in
       let t : ℕ = (get_or c.structs j d).type_number in
       let u : ℕ = (get_or c.structs s d).type_number in
-      texts_differ (type_entry c t).name (type_entry c u).name
+      text_ne (type_entry c t).name (type_entry c u).name
       (apart (λ (x : TypeEntry). x.name) c.types t u (record { name = []; length = 0 }) is.type_names_differ
       (is.struct_types_differ j s d below lt) first.type_number second.type_number)
 
@@ -58,10 +56,6 @@ module _ (c : Catalogue) (is : IsCatalogue c) (s : ℕ) (lt : s < length c.struc
       let same : 0 + s ≡ s = omega arith in
       first_is (λ (x : StructEntry). bytes_eq (type_entry c x.type_number).name (struct_name c s)) c.structs 0 s none lt
       ((bytes_eq-Decides (struct_name c s) (struct_name c s)).1 refl) (earlier none) ∙ ap Some same
-
--- a catalogue that can be read is one by the grammar
-pub IsCatalogue-can_be_read : (c : Catalogue) → CanBeRead c → IsCatalogue c
-IsCatalogue-can_be_read c read = IsCatalogue-catalogue_of read.order read.payload c read.bytes read.reads
 
 -- the struct of a struct's name is that struct
 pub struct_number-own : (c : Catalogue) (s : ℕ) → CanBeRead c → s < length c.structs → struct_number c (struct_name c s) ≡ s

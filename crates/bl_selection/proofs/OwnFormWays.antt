@@ -4,7 +4,7 @@ use Rattle.std.proofs.Common.{◌≡◌, ℕ, zero, suc, ◌+◌, ◌≤◌, ◌
 use Rattle.std.specs.Prelude.{◌&&◌, ◌==◌, nat_le, unwrap_or, option_map}
 use Rattle.std.specs.List.{find, prefix_len}
 use Rattle.std.specs.Str.{bytes_eq, byte}
-use Rattle.std.proofs.lemmas.Bool.{false_from_ne_true, eq-eqb, eqb-true}
+use Rattle.std.proofs.lemmas.Bool.{false_from_ne_true, eq-eqb, eqb-true, and_parts}
 use Rattle.std.proofs.lemmas.List.{drop-take}
 use Rattle.std.proofs.lemmas.List.Elements.{All-nil, All-cons, All-head, All-tail, All-map}
 use Rattle.std.proofs.lemmas.Slice.Eq.{bytes_eq-Decides}
@@ -163,10 +163,6 @@ all_true true true c is = (refl, is)
 all_true true false c is = absurd (cc)
 all_true false b c is = absurd (cc)
 
-both_true : (a b : Bool) → (a && b) ≡ true → (a ≡ true) × (b ≡ true)
-both_true true b is = (refl, is)
-both_true false b is = absurd (cc)
-
 -- two steps that meet are of one identifier, at one element
 same_steps : (x y : MemberStep) → StepTells x → StepTells y → steps_meet x y ≡ true → (x.identifier ≡ y.identifier) × (x.element ≡ y.element)
 same_steps x y tells others meet =
@@ -179,7 +175,7 @@ same_path [] [] tell others meet = refl
 same_path [] (y ∷ ys) tell others meet = absurd (cc)
 same_path (x ∷ xs) [] tell others meet = absurd (cc)
 same_path (x ∷ xs) (y ∷ ys) tell others meet =
-    let both = both_true (steps_meet x y) (ways_meet xs ys) meet in
+    let both = and_parts (steps_meet x y) (ways_meet xs ys) meet in
     let first = same_steps x y (All-head StepTells x xs tell) (All-head StepTells y ys others) both.0 in
     let later = same_path xs ys (All-tail StepTells x xs tell) (All-tail StepTells y ys others) both.1 in
     go xs ys first.0 first.1 both.1 later

@@ -4,7 +4,7 @@ use Rattle.std.proofs.Common.{◌≡◌, ◌≢◌, ℕ, zero, suc, ◌+◌, ◌
 use Rattle.std.specs.Prelude.{◌==◌, ◌||◌, ◌&&◌, nat_le, nat_lt, map, flat_map, count_by, codes}
 use Rattle.std.specs.List.{enumerate_from}
 use Rattle.std.specs.Option.{option_or}
-use Rattle.std.proofs.lemmas.Bool.{ltb-false, cases_lt, false_from_ne_true}
+use Rattle.std.proofs.lemmas.Bool.{ltb-false, cases_lt, false_from_ne_true, not-true, ne_eqb, eqb-false, and_parts}
 use Rattle.std.proofs.lemmas.List.{length-append, length-map, length-take-le, length-drop}
 use Rattle.std.proofs.lemmas.List.Sums.{length-filter, count_by-le-length, sum_by-append}
 use Rattle.std.proofs.lemmas.List.Elements.{All-nil, All-cons, All-head, All-tail, All-map, All-filter, All-weaker, filter_passes}
@@ -26,6 +26,7 @@ use Rattle.bl_format.specs.declared.catalogue.StructEntry.{StructEntry}
 use Rattle.bl_format.proofs.CatalogueFits.{length-catalogue_written}
 use Rattle.bl_format.proofs.BlocksOf.{IsBlockOf, block_facts}
 use Rattle.bl_format.proofs.MemberPasses.{first_fault-none}
+use Rattle.bl_format.proofs.NumbersBelow.{length-numbers_below}
 use Rattle.bl_selection.specs.declared.draft.Draft.{Draft}
 use Rattle.bl_selection.specs.declared.draft.Entry.{Entry}
 use Rattle.bl_selection.specs.declared.draft.Entry.TheVariants as entries
@@ -33,7 +34,7 @@ use Rattle.bl_selection.specs.Selection.{no_head, index_under, image_numbered, h
 use Rattle.bl_selection.specs.Written.{written_form}
 use Rattle.bl_selection.specs.Committed.{IsRebuilt}
 use Rattle.bl_selection.specs.GraphFits.{node_payload}
-use Rattle.bl_selection.proofs.EntriesAsNodes.{IsItsName, length-numbers_below}
+use Rattle.bl_selection.proofs.EntriesAsNodes.{IsItsName}
 use Rattle.bl_selection.proofs.NodesBack.{struct_number-named}
 use Rattle.bl_selection.proofs.CellsFit.{numbers_below-lt}
 use Rattle.bl_selection.proofs.SourcesFit.{ImagesStand, AddressesFit, HoldsElements}
@@ -52,17 +53,14 @@ each_of h b at end [] behind stand = All-nil (IsBlockOf h b)
 each_of h b at end (x ∷ xs) behind stand =
     All-cons (IsBlockOf h b) x xs (block_facts h b at x behind stand.0) (each_of h b (at + head_size h + x.len) end xs (omega (arith, behind)) stand.1)
 
-none_each : {X Y : Type 0} (g : X → Option Y) (xs : List X) → find_map g xs ≡ None → All (λ x. g x ≡ None) xs
+-- where nothing is found, no element gives anything
+pub none_each : {X Y : Type 0} (g : X → Option Y) (xs : List X) → find_map g xs ≡ None → All (λ x. g x ≡ None) xs
 none_each g [] is = All-nil (λ x. g x ≡ None)
 none_each {X} {Y} g (x ∷ xs) is = go (g x) refl is (none_each g xs)
   where
     go : (o : Option Y) → g x ≡ o → option_or o (find_map g xs) ≡ None → (find_map g xs ≡ None → All (λ x. g x ≡ None) xs) → All (λ x. g x ≡ None) (x ∷ xs)
     go None here is later = All-cons (λ x. g x ≡ None) x xs here (later is)
     go (Some y) here is later = absurd (cc)
-
-is_false : (b : Bool) → not b ≡ true → b ≡ false
-is_false true e = cc
-is_false false e = refl
 
 pub nodes_stand : (b : List ℕ) (f : File) → Accepted b f → All (NodeStands f) f.nodes
 nodes_stand b f accepted i d lt =
@@ -74,7 +72,7 @@ nodes_stand b f accepted i d lt =
     let faultless : All (λ x. node_fault f.catalogue x ≡ None) f.nodes = none_each (node_fault f.catalogue) f.nodes accepted.no_node_fault in
     record {
       block = subst (λ (bytes : List ℕ). IsBlockOf f.header bytes (get_or f.nodes i d)) (sym accepted.bytes) (own i d lt);
-      is_node = is_false (is_catalogue (get_or f.nodes i d)) (nodes i d lt);
+      is_node = not-true (is_catalogue (get_or f.nodes i d)) (nodes i d lt);
       no_fault = faultless i d lt;
     }
 
@@ -86,21 +84,10 @@ third_passes false true c p q e is = absurd (cc)
 third_passes false false true p q e is = absurd (cc)
 third_passes false false false p q e is = refl
 
-first_true : (a b : Bool) → (a && b) ≡ true → a ≡ true
-first_true true b e = refl
-first_true false b e = absurd (cc)
-
 has_it : (a b : Bool) → (a || not b) ≡ true → a ≡ false → b ≡ false
 has_it true b e is = absurd (cc)
 has_it false true e is = absurd (cc)
 has_it false false e is = refl
-
-not_zero_is : (n : ℕ) → n ≢ 0 → (n == 0) ≡ false
-not_zero_is n some = false_from_ne_true (n == 0) (λ is. some (eqb-true n 0 is))
-
-is_zero_not : (n : ℕ) → (n == 0) ≡ false → n ≢ 0
-is_zero_not zero is same = absurd (cc)
-is_zero_not (suc n) is same = absurd (omega (arith, same))
 
 pub payload_len : (f : File) (x : Head) → NodeStands f x → length (payload f.header f.bytes x) ≡ x.len
 payload_len f x own =
@@ -109,7 +96,7 @@ payload_len f x own =
 
 pub holds_elements : (f : File) (x : Head) → NodeStands f x → x.index ≢ 0 → HoldsElements f x
 holds_elements f x own some =
-    let enough : nat_lt x.len (x.count * struct_length f.catalogue x.index) ≡ false = third_passes (x.index == 0) (nat_le (length f.catalogue.structs) x.index) (nat_lt x.len (x.count * struct_length f.catalogue x.index)) (BadStruct x.at) (ShortBlock x.at) own.no_fault (not_zero_is x.index some) in
+    let enough : nat_lt x.len (x.count * struct_length f.catalogue x.index) ≡ false = third_passes (x.index == 0) (nat_le (length f.catalogue.structs) x.index) (nat_lt x.len (x.count * struct_length f.catalogue x.index)) (BadStruct x.at) (ShortBlock x.at) own.no_fault (ne_eqb x.index 0 some) in
     let le : x.count * struct_length f.catalogue x.index ≤ x.len = ltb-false x.len (x.count * struct_length f.catalogue x.index) enough in
     omega (arith, le, payload_len f x own)
 
@@ -118,7 +105,7 @@ kept_struct : (c : Catalogue) (f : File) (n : ℕ) → is_kept c f n ≡ true �
 unfolding is_kept
 kept_struct c f n kept some =
     let x : Head = get_or f.nodes n no_head in
-    is_zero_not (index_under c f.catalogue x.index) (has_it (x.index == 0) (index_under c f.catalogue x.index == 0) (first_true (has_struct c f.catalogue x) _ kept) (not_zero_is x.index some))
+    eqb-false (index_under c f.catalogue x.index) 0 (has_it (x.index == 0) (index_under c f.catalogue x.index == 0) (and_parts (has_struct c f.catalogue x) _ kept).0 (ne_eqb x.index 0 some))
 
 -- ---- numbers
 
@@ -127,7 +114,7 @@ struct_number-short c name few = by_zero (struct_number c name == 0) refl
   where
     by_zero : (b : Bool) → (struct_number c name == 0) ≡ b → struct_number c name < 2 ^ 31
     by_zero true is = let none : struct_number c name ≡ 0 = eqb-true (struct_number c name) 0 is in omega (arith, none)
-    by_zero false is = let within = (struct_number-named c name (is_zero_not (struct_number c name) is)).within in omega (arith, within, few)
+    by_zero false is = let within = (struct_number-named c name (eqb-false (struct_number c name) 0 is)).within in omega (arith, within, few)
 
 index_under-short : (c from : Catalogue) (s : ℕ) → length c.structs < 2 ^ 31 → IsCount (index_under c from s)
 index_under-short c from zero few = omega arith

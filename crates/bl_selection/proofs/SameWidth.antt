@@ -15,6 +15,7 @@ use Rattle.bl_format.proofs.NoneInItself.{structs_below, fewer_below, one_below}
 use Rattle.bl_format.proofs.NewLengths.{map_same, new_length-members}
 use Rattle.bl_format.proofs.RewidthKeeps.{type_at, rewidth-structs, rewidth-names, rewidth-type_count}
 use Rattle.bl_format.proofs.RewidthLayout.{length_is, element_of_pointer, element_by_value}
+use Rattle.bl_format.proofs.RewidthBack.{same_catalogue, with_length}
 use Rattle.bl_selection.specs.Committed.{IsRebuilt, IsConverted}
 
 -- ---- sizes
@@ -71,13 +72,6 @@ type_same c w t d e lt = go (struct_of_type c t) refl
         ∙ ap (λ (x : TypeEntry). x.length) (get_or_default c.types t (record { name = []; length = 0 }) d lt)
 
 -- ---- the laws
-
--- a type of another length
-abbrev with_length : TypeEntry → ℕ → TypeEntry
-with_length t n = record t { length = n }
-
-same_catalogue : (a b : Catalogue) → a.names ≡ b.names → a.types ≡ b.types → a.structs ≡ b.structs → a ≡ b
-same_catalogue a b names types structs = λ i. record { names = names i; types = types i; structs = structs i }
 
 -- a catalogue with a layout, brought to the width of that layout, is itself
 pub rewidth-same : (c : Catalogue) (w : Width) → HasLayout c w → rewidth c w w ≡ c

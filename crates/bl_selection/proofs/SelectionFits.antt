@@ -5,6 +5,7 @@ use Rattle.std.specs.Prelude.{◌==◌, map, codes}
 use Rattle.std.specs.List.{enumerate_from}
 use Rattle.std.specs.Str.{bytes_eq}
 use Rattle.std.proofs.lemmas.List.Elements.{All-nil, All-cons, All-head, All-tail, All-take, All-drop}
+use Rattle.std.proofs.lemmas.Bool.{eqb-false}
 use Rattle.bl_num.specs.declared.number.Form.{Form}
 use Rattle.bl_num.specs.Numbers.{pointer_bytes}
 use Rattle.bl_format.specs.declared.file.Header.{Header}
@@ -33,7 +34,7 @@ use Rattle.bl_selection.proofs.RawKinds.{raw_kind-bytes, raw_kind-again}
 use Rattle.bl_selection.proofs.EntriesAsNodes.{IsItsName, entry_node-code, entry_node-group, entry_node-count, entry_node-index, codes_are}
 use Rattle.bl_selection.proofs.SourcesFit.{ImagesStand, AddressesFit, HoldsElements, entry_names-fit, source_fields-fit}
 use Rattle.bl_selection.proofs.StandsBack.{written_form-stands}
-use Rattle.bl_selection.proofs.CellViews.{index_under-some, not_equal, selection_views-graph}
+use Rattle.bl_selection.proofs.CellViews.{index_under-some, selection_views-graph}
 
 -- ---- what is asked of a draft
 
@@ -143,7 +144,7 @@ module _ (files : List File) (d : Draft) (can : DraftStands files d) where
       by_index true is =
           raw_holds e x.code (entry_group files d e) x.count x.len (entry_names files d e i n) (form_of f.header) (payload f.header f.bytes x) targets
           (All-take (λ b. b < 256) x.len _ (All-drop (λ b. b < 256) _ f.bytes own.bytes)) own.len
-      by_index false is = struct_holds (not_equal x.index is)
+      by_index false is = struct_holds (eqb-false x.index 0 is)
 
   entry_holds : (e : ℕ) (x : Entry) → EntryHolds files d e x → HoldsWhatFits h c nodes e (entry_node files d views e x)
   unfolding entry_node

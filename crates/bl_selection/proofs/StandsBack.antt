@@ -16,7 +16,7 @@ use Rattle.bl_format.specs.Nodes.{payload, is_catalogue, catalogues_in, nodes_in
 use Rattle.bl_format.specs.Graph.{Node, Struct, Raw}
 use Rattle.bl_format.proofs.MemberPasses.{first_fault-none}
 use Rattle.bl_format.proofs.CatalogueBack.{catalogue_of-catalogue_written}
-use Rattle.bl_format.proofs.CatalogueRead.{IsCatalogue-catalogue_of}
+use Rattle.bl_format.proofs.CatalogueRead.{IsCatalogue-catalogue_of, IsCatalogue-can_be_read}
 use Rattle.bl_selection.specs.Written.{catalogue_block, written_form}
 use Rattle.bl_selection.specs.GraphFits.{node_payload, names_for, NodeFits, GraphFits}
 use Rattle.bl_selection.specs.Committed.{Stands}
@@ -83,9 +83,6 @@ module _ (h : Header) (c : Catalogue) (nodes : List Node) where
       let stands : drop at (written_form h c nodes) ≡ catalogue_block h c ++ rest = sym (drop-drop (length text) (header_size h) (written_form h c nodes)) ∙ ap (drop (length text)) (first_stands h c nodes) ∙ drop_at text (catalogue_block h c ++ rest) (length text) refl in
       payload_of_block h (codes "DNA1") 0 0 1 (catalogue_written h.order c) at (catalogue_can_stand h c at fits.catalogue) (written_form h c nodes) rest stands
 
-is_catalogue_of : (c : Catalogue) → CanBeRead c → IsCatalogue c
-is_catalogue_of c can = IsCatalogue-catalogue_of can.order can.payload c can.bytes can.reads
-
 -- ---- the laws
 
 -- the written form of a graph that fits is accepted
@@ -96,7 +93,7 @@ written_form-accepted h c nodes fits = record {
     reads = written_form-reads h c nodes fits.version.0 fits.version.1 fits.catalogue fits.each;
     place = catalogue_head h c (header_size h + length (nodes_written h c 0 nodes));
     one_catalogue = one_catalogue h c nodes fits.each;
-    catalogue = ap (catalogue_of h.order) (payload_of_catalogue h c nodes fits) ∙ catalogue_of-catalogue_written h.order c (is_catalogue_of c fits.layout.can_be_read);
+    catalogue = ap (catalogue_of h.order) (payload_of_catalogue h c nodes fits) ∙ catalogue_of-catalogue_written h.order c (IsCatalogue-can_be_read c fits.layout.can_be_read);
   };
   no_layout_fault = fits.layout.no_fault;
   nodes = sym (nodes_are h c nodes fits.each);

@@ -48,7 +48,7 @@ number_meant-bits_of whole (negsuc v) fits =
     rw (same, low, fits.0) (low_bits-negative size v le)
 
 -- the low bits of a number fit as many bytes as whole numbers have
-powers : (n : ℕ) → IsWholeLength n → 2 ^ (8 * n) ≡ 256 ^ n
+pub powers : (n : ℕ) → IsWholeLength n → 2 ^ (8 * n) ≡ 256 ^ n
 powers n (inl e) = rw e refl
 powers n (inr (inl e)) = rw e refl
 powers n (inr (inr (inl e))) = rw e refl

@@ -13,13 +13,12 @@ use Rattle.bl_format.specs.declared.raw.View.{View}
 use Rattle.bl_format.specs.Words.{numbers_below, first_place}
 use Rattle.bl_format.specs.Nodes.{File, group_of}
 use Rattle.bl_format.specs.Graph.{file_codes}
+use Rattle.bl_format.proofs.NumbersBelow.{get_or-numbers_below, length-numbers_below}
 use Rattle.bl_selection.specs.declared.draft.Draft.{Draft}
 use Rattle.bl_selection.specs.declared.draft.Entry.{Entry}
 use Rattle.bl_selection.specs.declared.draft.Entry.TheVariants as entries
 use Rattle.bl_selection.specs.Selection.{image_of, image_numbered, head_of, is_kept, kept_nodes, own_images, whole_selection, selection_views}
 use Rattle.bl_selection.specs.Drafts.{kept_in_group, are_sources, is_good_source, has_good_images, is_good_entry, is_well_formed}
-use Rattle.bl_selection.proofs.EntriesAsNodes.{length-numbers_below}
-use Rattle.bl_selection.proofs.OwnFormNames.{number_at_place}
 use Rattle.bl_selection.proofs.RebuiltStands.{at_most, few_entries, entry_number, all_kept}
 use Rattle.bl_selection.proofs.GroupRuns.{filter-both, filter-none, Rises, Rises-numbers_below, Rises-filter, passed_before, InGroup, numbers_in, numbers_under, side_by_side, in_group, group_of-rise, group_of-no_head}
 
@@ -45,7 +44,7 @@ module _ (f : File) (h : Header) (c : Catalogue) where
       let image : ℕ → ℕ = λ k. cond (is_kept c f k) (suc (count_by (is_kept c f) (numbers_below k))) 0 in
       ap image_numbered
       (get_or-map image (numbers_below (length f.nodes)) n 0 0 (omega (arith, lt, length-numbers_below (length f.nodes)))
-      ∙ ap image (number_at_place (length f.nodes) n 0 lt)
+      ∙ ap image (get_or-numbers_below (length f.nodes) n 0 lt)
       ∙ ap (λ b. cond b (suc (count_by (is_kept c f) (numbers_below n))) 0) kept)
 
   images_good : has_good_images (f ∷ []) d ≡ true

@@ -29,7 +29,7 @@ abbrev pub place_of : Slot → ℕ × ℕ
 place_of e = (e.0.offset + e.1 * e.0.size, e.0.size)
 
 -- the places of leaves are those of their elements
-places-slots : (xs : List NamedLeaf) → places xs ≡ map place_of (slots xs)
+pub places-slots : (xs : List NamedLeaf) → places xs ≡ map place_of (slots xs)
 places-slots [] = refl
 places-slots (x ∷ xs) =
     rw (map-append place_of (map (λ k. (x, k)) (numbers_below x.count)) (slots xs), places-slots xs, each (numbers_below x.count)) refl
@@ -38,7 +38,8 @@ places-slots (x ∷ xs) =
     each [] = refl
     each (k ∷ ks) = rw (each ks) refl
 
-pieces_rise : (from to : ℕ) (ps : List (ℕ × ℕ)) → PiecesApart from ps to → from ≤ to
+-- pieces that are apart end behind their start
+pub pieces_rise : (from to : ℕ) (ps : List (ℕ × ℕ)) → PiecesApart from ps to → from ≤ to
 pieces_rise from to [] apart = apart
 pieces_rise from to (p ∷ ps) apart =
     let rest = pieces_rise (p.0 + p.1) to ps apart.1 in omega (arith, apart.0)
