@@ -2,7 +2,7 @@
 use Rattle.std.proofs.Common.{◌≡◌, ◌<◌, ◌≤◌, inl, inr, ℕ, ◌-◌, ◌∙◌, sym, refl, subst, Bool, true, false, List, length, get_or, take, Some, None, arith}
 use Rattle.std.specs.Prelude.{◌&&◌}
 use Rattle.std.specs.List.Sorted.{IsPartitionPoint}
-use Rattle.std.proofs.lemmas.Bool.{cases_lt}
+use Rattle.std.proofs.lemmas.Bool.{cases_lt, and_parts, false_from_ne_true}
 use Rattle.std.proofs.lemmas.List.{get_or_default, length-take-le, get_or-take}
 use Rattle.bl_format.specs.Nodes.{Mark}
 use Rattle.bl_format.specs.Words.{last_place}
@@ -39,17 +39,6 @@ end_at rows end last bound some is =
     rw len (get_or-take end rows (end - 1) last (omega (arith, more))) in
     (more, sym same ∙ sym is)
 
--- both parts of a test pass
-both : (a b : Bool) → (a && b) ≡ true → (a ≡ true) × (b ≡ true)
-both true true e = (refl, refl)
-both true false e = absurd (cc)
-both false b e = absurd (cc)
-
--- a test that can't pass fails
-not_true : (b : Bool) → (b ≡ true → ⊥) → b ≡ false
-not_true true never = absurd (never refl)
-not_true false never = refl
-
 -- a row stands before the end
 record IsBefore (rows : List Row) (end : ℕ) (r : Row) : Type 0 where
   at : ℕ
@@ -64,7 +53,7 @@ found_before : (scope : Scope) (marks : List Mark) (rows : List Row) (place : Pl
     → IsBefore rows end (row_at scope marks n)
 found_before scope marks rows place end o ends n lt found =
     let own : Row = row_at scope marks n in
-    let parts = both (is_member scope (mark_at marks n)) (is_at place (place_of own)) found in
+    let parts = and_parts (is_member scope (mark_at marks n)) (is_at place (place_of own)) found in
     let has = o.members.whole n (lt, parts.0) in
     let j : ℕ = has.0 in
     let inside : j < length rows = has.1 in
@@ -84,7 +73,7 @@ pub none_found : (scope : Scope) (marks : List Mark) (rows : List Row) (place : 
     → IsOrder scope marks rows → EndsAt rows place end → end ≡ 0
     → last_place (is_found scope place) marks ≡ None
 none_found scope marks rows place end o ends none = last_place-none (is_found scope place) marks (λ n d lt.
-    not_true (is_found scope place (get_or marks n d)) (λ found.
+    false_from_ne_true (is_found scope place (get_or marks n d)) (λ found.
     let here : is_found scope place (mark_at marks n) ≡ true =
     subst (λ m. is_found scope place m ≡ true) (get_or_default marks n d _ lt) found in
     let before = found_before scope marks rows place end o ends n lt here in
@@ -139,12 +128,12 @@ last_found scope marks rows place end last o ends some bound is at =
         subst (λ m. is_found scope place m ≡ true) (get_or_default marks last.node _ d row.0.0) own
 
     after : (j : ℕ) (d : Mark) → last.node < j → j < length marks → is_found scope place (get_or marks j d) ≡ false
-    after j d more lt = not_true (is_found scope place (get_or marks j d)) (λ found.
+    after j d more lt = false_from_ne_true (is_found scope place (get_or marks j d)) (λ found.
         let found_at : is_found scope place (mark_at marks j) ≡ true =
         subst (λ m. is_found scope place m ≡ true) (get_or_default marks j d _ lt) found in
         let own : Row = row_at scope marks j in
         let no_later = found_no_later scope marks rows place end last o ends some bound is j lt found_at in
-        let parts = both (is_member scope (mark_at marks j)) (is_at place (place_of own)) found_at in
+        let parts = and_parts (is_member scope (mark_at marks j)) (is_at place (place_of own)) found_at in
         let first = at_means place (place_of own) parts.1 in
         let second = at_means place (place_of last) at in
         let le = number_le (place_of own) (place_of last) place j last.node no_later
@@ -177,13 +166,13 @@ pub last_not_found : (scope : Scope) (marks : List Mark) (rows : List Row) (plac
     → last_place (is_found scope place) marks ≡ None
 last_not_found scope marks rows place end last o ends some bound is apart =
     last_place-none (is_found scope place) marks (λ n d lt.
-    not_true (is_found scope place (get_or marks n d)) (λ found.
+    false_from_ne_true (is_found scope place (get_or marks n d)) (λ found.
     let here : is_found scope place (mark_at marks n) ≡ true =
     subst (λ m. is_found scope place m ≡ true) (get_or_default marks n d _ lt) found in
     let p : Place = place_of (row_at scope marks n) in
     let q : Place = place_of last in
     let no_later = found_no_later scope marks rows place end last o ends some bound is n lt here in
-    let parts = both (is_member scope (mark_at marks n)) (is_at place p) here in
+    let parts = and_parts (is_member scope (mark_at marks n)) (is_at place p) here in
     let first = at_means place p parts.1 in
     let up : is_up_to place q ≡ true =
     subst (λ r. is_up_to place (place_of r) ≡ true) is
