@@ -18,7 +18,7 @@ use Rattle.bl_format.specs.declared.catalogue.TypeEntry.{TypeEntry}
 use Rattle.bl_format.specs.declared.catalogue.StructEntry.{StructEntry}
 use Rattle.bl_format.specs.declared.catalogue.MemberEntry.{MemberEntry}
 use Rattle.bl_format.specs.Words.{part, number_at, is_one_of, aligned_place, zeros}
-use Rattle.bl_format.specs.Schema.{◌>>=◌, Reading, ensure, tag_at, count_at, index_at, name_by, name_at, many_at, type_names_at, member_at, structs_at, type_entries, names_at, types_at, lengths_at, all_structs_at, catalogue_of, catalogue_written, name_written, member_written, struct_written, padding_of, with_padding, names_part, types_part, lengths_part, structs_part}
+use Rattle.bl_format.specs.Schema.{Reading, ensure, tag_at, count_at, index_at, name_by, name_at, many_at, type_names_at, member_at, structs_at, type_entries, names_at, types_at, lengths_at, all_structs_at, catalogue_of, catalogue_written, name_written, member_written, struct_written, padding_of, with_padding, names_part, types_part, lengths_part, structs_part}
 use Rattle.bl_format.proofs.CatalogueRead.{bind_ok, ok_same, entries_len}
 use Rattle.bl_format.proofs.CatalogueSpelled.{entries_names, entries_lengths}
 

@@ -1,7 +1,7 @@
 -- Each leaf has elements, each of some bytes; and the size of an element is one that the leaf's kind has, so that the
 -- number in it can be read and written.
 use Rattle.std.proofs.Common.{◌≡◌, ◌≢◌, ℕ, zero, suc, ◌+◌, ◌*◌, ◌<◌, Bool, true, false, cond, not, All, List, [], ◌∷◌, Option, Some, None, refl, sym, arith, inl, inr, eqb, eqb-true}
-use Rattle.std.specs.Prelude.{◌⊎◌, ◌||◌, ◌&&◌, flat_map, option_map, is_some, ◌==◌}
+use Rattle.std.specs.Prelude.{◌⊎◌, ◌&&◌, flat_map, option_map, is_some, ◌==◌}
 use Rattle.std.specs.List.{find}
 use Rattle.std.specs.Str.{bytes_eq}
 use Rattle.std.proofs.lemmas.List.Elements.{All-nil, All-cons, All-append, All-map}

@@ -27,3 +27,4 @@ pub mod RewidthBack
 pub mod RewidthLeaves
 pub mod WaysDiffer
 pub mod LeafBytes
+pub mod KindsSaid

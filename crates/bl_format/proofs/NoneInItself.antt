@@ -2,7 +2,7 @@
 -- stands in another by value has fewer structs below it, since the other isn't among them. So what is opened up as
 -- often as there are structs is opened up whole.
 use Rattle.std.proofs.Common.{◌≡◌, ℕ, zero, suc, ◌+◌, ◌≤◌, ◌<◌, Bool, true, false, cond, eqb, List, [], ◌∷◌, ◌++◌, length, Option, Some, None, refl, sym, subst, ◌-◌, arith, inl, inr, eqb-true, eq-eqb}
-use Rattle.std.specs.Prelude.{◌⊎◌, ◌||◌, max, map, fold, filter_map}
+use Rattle.std.specs.Prelude.{◌||◌, max, map, fold, filter_map}
 use Rattle.std.specs.List.{cons_option}
 use Rattle.std.proofs.lemmas.Bool.{cases_lt, or_cases, or_right}
 use Rattle.std.proofs.lemmas.List.Folds.{list_any-append}
