@@ -3,14 +3,14 @@ use Rattle.std.proofs.Common.{◌≡◌, ◌≢◌, ℕ, zero, suc, ◌+◌, ◌
 use Rattle.std.specs.Prelude.{unwrap_or}
 use Rattle.std.specs.List.{position_from}
 use Rattle.std.specs.Str.{bytes_eq}
-use Rattle.std.proofs.lemmas.Bool.{cases_lt, false_from_ne_true}
+use Rattle.std.proofs.lemmas.Bool.{cases_lt}
 use Rattle.std.proofs.lemmas.Slice.Eq.{bytes_eq-Decides}
 use Rattle.bl_format.specs.declared.catalogue.Catalogue.{Catalogue}
 use Rattle.bl_format.specs.declared.catalogue.StructEntry.{StructEntry}
 use Rattle.bl_format.specs.declared.catalogue.TypeEntry.{TypeEntry}
 use Rattle.bl_format.specs.Schema.{CanBeRead, IsCatalogue}
 use Rattle.bl_format.specs.Layout.{type_entry, struct_name, struct_named, struct_number}
-use Rattle.bl_format.proofs.CatalogueRead.{IsCatalogue-catalogue_of, IsCatalogue-can_be_read}
+use Rattle.bl_format.proofs.CatalogueRead.{IsCatalogue-can_be_read}
 use Rattle.bl_format.proofs.CatalogueBack.{text_ne}
 
 -- the first that passes is the one before which none does

@@ -1,10 +1,10 @@
 -- What is rebuilt of an accepted file under another header and catalogue is written so that it stands: where that
 -- catalogue has a layout, and its payload and those of the nodes are short enough.
 use Rattle.std.proofs.Common.{◌≡◌, ◌≢◌, ℕ, zero, suc, ◌+◌, ◌*◌, ◌^◌, ◌<◌, ◌≤◌, Bool, true, false, cond, not, All, List, [], ◌∷◌, ◌++◌, length, get_or, drop, Option, Some, None, refl, sym, subst, ◌∙◌, arith, inl, inr, eqb-true}
-use Rattle.std.specs.Prelude.{◌==◌, ◌||◌, ◌&&◌, nat_le, nat_lt, map, flat_map, count_by, codes}
+use Rattle.std.specs.Prelude.{◌==◌, ◌||◌, nat_le, nat_lt, map, flat_map, count_by, codes}
 use Rattle.std.specs.List.{enumerate_from}
 use Rattle.std.specs.Option.{option_or}
-use Rattle.std.proofs.lemmas.Bool.{ltb-false, cases_lt, false_from_ne_true, not-true, ne_eqb, eqb-false, and_parts}
+use Rattle.std.proofs.lemmas.Bool.{ltb-false, cases_lt, not-true, ne_eqb, eqb-false, and_parts}
 use Rattle.std.proofs.lemmas.List.{length-append, length-map, length-take-le, length-drop}
 use Rattle.std.proofs.lemmas.List.Sums.{length-filter, count_by-le-length, sum_by-append}
 use Rattle.std.proofs.lemmas.List.Elements.{All-nil, All-cons, All-head, All-tail, All-map, All-filter, All-weaker, filter_passes}

@@ -10,13 +10,13 @@ use Rattle.bl_format.specs.declared.file.Head.{Head}
 use Rattle.bl_format.specs.declared.catalogue.Catalogue.{Catalogue}
 use Rattle.bl_format.specs.Words.{find_map, zeros}
 use Rattle.bl_format.specs.Blocks.{header_size, head_size}
-use Rattle.bl_format.specs.Schema.{CanBeRead, IsCatalogue, catalogue_of, catalogue_written}
+use Rattle.bl_format.specs.Schema.{catalogue_of, catalogue_written}
 use Rattle.bl_format.specs.Layout.{struct_length, struct_number, first_fault}
 use Rattle.bl_format.specs.Nodes.{payload, is_catalogue, catalogues_in, nodes_in, node_fault, Accepted}
 use Rattle.bl_format.specs.Graph.{Node, Struct, Raw}
 use Rattle.bl_format.proofs.MemberPasses.{first_fault-none}
 use Rattle.bl_format.proofs.CatalogueBack.{catalogue_of-catalogue_written}
-use Rattle.bl_format.proofs.CatalogueRead.{IsCatalogue-catalogue_of, IsCatalogue-can_be_read}
+use Rattle.bl_format.proofs.CatalogueRead.{IsCatalogue-can_be_read}
 use Rattle.bl_selection.specs.Written.{catalogue_block, written_form}
 use Rattle.bl_selection.specs.GraphFits.{node_payload, names_for, NodeFits, GraphFits}
 use Rattle.bl_selection.specs.Committed.{Stands}
