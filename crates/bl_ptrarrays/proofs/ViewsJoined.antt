@@ -1,16 +1,16 @@
 -- Views that are joined one by one give the kind that all views of a node agree on.
-use Rattle.std.proofs.Common.{◌≡◌, inl, inr, ℕ, zero, suc, ◌+◌, ◌≤◌, ◌<◌, Bool, true, false, cond, All, List, [], ◌∷◌, length, get_or, Option, Some, None, refl, sym, ap, ◌∙◌, arith, drop_of_length-le}
+use Rattle.std.proofs.Common.{◌≡◌, ℕ, ◌+◌, ◌≤◌, ◌<◌, Bool, true, false, cond, All, List, [], ◌∷◌, length, get_or, Option, Some, None, refl, sym, ap, ◌∙◌, arith, drop_of_length-le}
 use Rattle.std.specs.Prelude.{◌==◌, ◌&&◌, map, filter, set, unwrap_or, drop, replicate}
 use Rattle.std.specs.List.{list_all}
-use Rattle.std.proofs.lemmas.Bool.{eqb-true, eqb-false, cases_lt}
-use Rattle.std.proofs.lemmas.List.{length-set, length-map, get_or-map, get_or-set_same, get_or-set_other, get_or-replicate, ext_get_or, drop_more, length-replicate, get_or_push, get_or_append_left}
+use Rattle.std.proofs.lemmas.Bool.{eqb-true, eqb-false}
+use Rattle.std.proofs.lemmas.List.{length-set, length-map, get_or-map, get_or-set_same, get_or-set_other, get_or-replicate, ext_get_or, drop_more, length-replicate}
 use Rattle.std.proofs.lemmas.List.Elements.{All-tail}
 use Rattle.bl_format.specs.declared.raw.RawKind.{RawKind}
 use Rattle.bl_format.specs.declared.raw.RawKind.TheVariants.{Bytes}
 use Rattle.bl_format.specs.declared.raw.View.{View}
 use Rattle.bl_format.specs.Words.{numbers_below}
 use Rattle.bl_format.specs.Nodes.{kind_eq, common_kind, viewed_kind}
-use Rattle.bl_selection.proofs.EntriesAsNodes.{length-numbers_below}
+use Rattle.bl_format.proofs.NumbersBelow.{get_or-numbers_below, length-numbers_below}
 use Rattle.bl_ptrarrays.specs.Joined.{joined, joined_views}
 
 -- ---- one node
@@ -83,15 +83,6 @@ joined_views-at (v ∷ vs) kinds n all lt =
         (get_or-set_other kinds v.node n next None (λ same. eqb-false v.node n is (sym same)))
 
 -- ---- the law
-
--- number k stands at place k
-get_or-numbers_below : (n k d : ℕ) → k < n → get_or (numbers_below n) k d ≡ k
-get_or-numbers_below zero k d lt = absurd (omega arith)
-get_or-numbers_below (suc n) k d lt = elim (cases_lt k n) [
-  | inl less ↦ (get_or_append_left (numbers_below n) (n ∷ []) d k (omega (arith, length-numbers_below n))
-      ∙ get_or-numbers_below n k d less)
-  | inr most ↦ (let is : n ≡ k = omega arith in get_or_push (numbers_below n) n d k (length-numbers_below n ∙ is) ∙ is)
-]
 
 -- all views joined from nothing give each node the kind that its views give
 pub joined_views-viewed : (seen : List View) (nodes : ℕ) → All (λ v. v.node < nodes) seen
