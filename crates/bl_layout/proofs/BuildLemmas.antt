@@ -3,11 +3,12 @@
 use Rattle.std.proofs.Common.{◌≡◌, ℕ, suc, ◌+◌, ◌*◌, ◌≤◌, ◌<◌, ◌^◌, Bool, true, false, cond, not, subst, All, List, [], ◌∷◌, ◌++◌, length, map, Option, Some, None, eqb, refl, sym, ◌∙◌, ap, arith, ltb-false}
 use Rattle.std.proofs.Math.Dec.{eqb-suc-zero}
 use Rattle.std.proofs.lemmas.List.Sums.{prefix_len-le-length}
-use Rattle.std.specs.Prelude.{◌==◌, ◌&&◌, ◌||◌, flat_map, option_map, unwrap_or, nat_le, slice_index, drop}
+use Rattle.std.specs.Prelude.{◌==◌, ◌&&◌, flat_map, option_map, unwrap_or, nat_le, slice_index, drop}
 use Rattle.std.specs.List.{prefix_len}
 use Rattle.std.specs.Str.{byte}
 use Rattle.std.proofs.lemmas.List.{map-append}
 use Rattle.std.proofs.lemmas.List.Elements.{All-map}
+use Rattle.std.proofs.lemmas.Bool.{or_parts}
 use Rattle.bl_num.specs.declared.number.Width.{Width}
 use Rattle.bl_format.specs.declared.catalogue.Catalogue.{Catalogue}
 use Rattle.bl_format.specs.declared.catalogue.MemberEntry.{MemberEntry}
@@ -125,10 +126,6 @@ leaves-near c w s is e place =
     All-map (λ (x : Leaf). x.offset < 2 ^ 31) leaf_of (named_leaves c w s)
     (λ j d lt. (let h = named_leaves-within c w s e j d lt in omega (arith, h, small)))
 
-second_false : (a b : Bool) → (a || b) ≡ false → b ≡ false
-second_false true b e = absurd (cc)
-second_false false b e = e
-
 -- a member by value of a basic type has a length of it
 pub length-good : (c : Catalogue) (w : Width) (s k : ℕ) → first_fault c w ≡ None → k < member_count c s
     → (not (parts_of c (member_entry c s k)).pointer
@@ -136,7 +133,7 @@ pub length-good : (c : Catalogue) (w : Width) (s k : ℕ) → first_fault c w �
 unfolding name_of
 length-good c w s k e lt =
     let t = (member_entry c s k).type_number in
-    rw (basic_in-content_of c t) (second_false _ _ (member_passes c w s k e lt).basic_length)
+    rw (basic_in-content_of c t) (or_parts _ _ (member_passes c w s k e lt).basic_length).1
 
 -- what the leaf of a member holds
 pub kind_of-at : (c : Catalogue) (s k : ℕ) → kind_of c s k ≡ kind_at c (member_entry c s k)

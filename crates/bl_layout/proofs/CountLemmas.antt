@@ -2,13 +2,12 @@
 use Rattle.std.proofs.Common.{◌≡◌, ◌≢◌, ℕ, zero, suc, ◌+◌, ◌*◌, ◌^◌, ◌≤◌, ◌<◌, Bool, true, false, cond, List, [], ◌∷◌, ◌++◌, length, get_or, set, take, map, Option, Some, None, refl, sym, ◌∙◌, ap, arith, inl, inr}
 use Rattle.std.specs.Prelude.{nat_lt, if◌then◌else◌, All, sum, flat_map, replicate, slice_index, ◌==◌}
 use Rattle.std.proofs.lemmas.Bool.{cases_lt, le-ltb, lt-ltb}
-use Rattle.std.proofs.lemmas.List.{length-map, length-append, length-set, length-replicate, take_all, take_more, get_or-set_same, get_or-set_other, get_or_default}
+use Rattle.std.proofs.lemmas.List.{length-map, length-append, length-set, length-replicate, take_all, take_more, get_or-set_same, get_or-set_other, get_or_default, map_push}
 use Rattle.std.proofs.lemmas.List.Elements.{All-head, All-tail, All-set, All-replicate}
 use Rattle.std.proofs.lemmas.List.Concat.{length-flat_map}
 use Rattle.std.proofs.lemmas.List.Sums.{sum-map, sum_by_push}
 use Rattle.bl_num.specs.declared.number.Width.{Width}
 use Rattle.bl_format.specs.declared.catalogue.Catalogue.{Catalogue}
-use Rattle.bl_format.specs.declared.catalogue.StructEntry.{StructEntry}
 use Rattle.bl_format.specs.declared.catalogue.MemberEntry.{MemberEntry}
 use Rattle.bl_format.specs.Schema.{IsCatalogue}
 use Rattle.bl_format.specs.declared.layout.LayoutFault.{LayoutFault}
@@ -18,14 +17,16 @@ use Rattle.bl_format.specs.Words.{numbers_below, find_map}
 use Rattle.bl_format.specs.Layout.{NamedLeaf, struct_entry, member_entry, member_numbers, struct_length, struct_numbers, name_of, element_size, member_size, inner_struct, inner_leaves, leaves_by, member_leaves, named_leaves, first_fault, nesting, depth_fault, leaves_below, leaves_fault}
 use Rattle.bl_format.proofs.LeavesApart.{AreApart, end_of_leaf, flat_map-numbers_below, named_leaves-apart}
 use Rattle.bl_format.proofs.LeafKinds.{HasBytes, named_leaves-have_bytes}
+use Rattle.bl_format.proofs.NumbersBelow.{length-numbers_below}
+use Rattle.bl_format.proofs.NewLengths.{map_same}
 use Rattle.bl_layout.specs.Sizes.{size_of, parts_of, inner_of}
 use Rattle.bl_layout.specs.Nesting.{nestings_in}
 use Rattle.bl_layout.specs.Counts.{leaf_count, leaf_counts_in, count_by, count_of_member, count_of_members, AreCounts}
-use Rattle.bl_layout.proofs.DuplicateLemmas.{map-push}
 use Rattle.bl_layout.proofs.GraphLemmas.{inner_struct-inner_of}
-use Rattle.bl_layout.proofs.NestingLemmas.{at_number, by_numbers, map_same, nestings-len, length-below}
+use Rattle.bl_layout.proofs.NestingLemmas.{at_number, by_numbers, nestings-len}
 use Rattle.bl_layout.proofs.OffsetLemmas.{find_map-pass, find_map-first}
 use Rattle.bl_layout.proofs.UnfoldLemmas.{named_leaves-members, inner-nesting, inner-within, nesting-limit, nesting-some}
+use Rattle.bl_layout.proofs.BuildLemmas.{struct_length-small}
 
 -- ---- a struct has no more leaves than bytes
 
@@ -40,12 +41,6 @@ apart_few from to [] h all = omega (arith, h)
 apart_few from to (x ∷ xs) h all =
     let has = All-head HasBytes x xs all in
     omega (arith, h.0, positive x.size x.count has.size has.count, apart_few (end_of_leaf x) to xs h.1 (All-tail HasBytes x xs all))
-
-struct_length-small : (c : Catalogue) (s : ℕ) → IsCatalogue c → s < length c.structs → struct_length c s < 2 ^ 16
-struct_length-small c s is lt =
-    let far : StructEntry = record { type_number = length c.types; members = [] } in
-    let t = (struct_entry c s).type_number in
-    is.lengths_fit t (record { name = []; length = 0 }) (is.structs s far lt).type_number
 
 -- a struct has few leaves
 pub leaf_count-small : (c : Catalogue) (w : Width) (s : ℕ) → IsCatalogue c → first_fault c w ≡ None
@@ -103,10 +98,10 @@ map_numbers : {A B : Type 0} (f : ℕ → B) (g : A → B) (xs : List A) (d : A)
 map_numbers f g xs d zero le same = refl
 map_numbers f g xs d (suc n) le same =
     let next : suc n ≡ n + 1 = omega arith in
-    map-push f (numbers_below n) n
+    map_push f (numbers_below n) n
     ∙ ap (λ ys. ys ++ f n ∷ []) (map_numbers f g xs d n (omega arith) (λ k lt. same k (omega arith)))
     ∙ ap (λ y. map g (take n xs) ++ y ∷ []) (same n (omega arith))
-    ∙ sym (ap (λ (m : ℕ). map g (take m xs)) next ∙ ap (map g) (take_more xs n d (omega arith)) ∙ map-push g (take n xs) (get_or xs n d))
+    ∙ sym (ap (λ (m : ℕ). map g (take m xs)) next ∙ ap (map g) (take_more xs n d (omega arith)) ∙ map_push g (take n xs) (get_or xs n d))
 
 -- the counts so far are enough for a struct that is nested just so deep
 pub struct_leaves_are : (c : Catalogue) (w : Width) (depth reached s : ℕ) (counts : List ℕ)
@@ -198,12 +193,12 @@ unfolding leaves_below
 leaves_below-suc c w s next n is count =
     let more : next ≡ suc s = omega arith in
     ap (λ (m : ℕ). leaves_below c w s + m) count
-    ∙ sym (ap (leaves_below c w) more ∙ ap sum (map-push (leaf_count c w) (numbers_below s) s)
+    ∙ sym (ap (leaves_below c w) more ∙ ap sum (map_push (leaf_count c w) (numbers_below s) s)
     ∙ sum_by_push (λ (m : ℕ). m) (map (leaf_count c w) (numbers_below s)) (leaf_count c w s))
 
 -- as many counts as structs
 pub leaf_counts-len : (c : Catalogue) (w : Width) → length (leaf_counts_in c w) ≡ length c.structs
-leaf_counts-len c w = length-map (struct_numbers c) (leaf_count c w) ∙ length-below (length c.structs)
+leaf_counts-len c w = length-map (struct_numbers c) (leaf_count c w) ∙ length-numbers_below (length c.structs)
 
 -- the count of a struct as the code has it
 pub count_at : (c : Catalogue) (w : Width) (counts : List ℕ) (s d : ℕ) → counts ≡ leaf_counts_in c w

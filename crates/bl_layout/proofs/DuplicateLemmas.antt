@@ -3,7 +3,7 @@ use Rattle.std.proofs.Common.{◌≡◌, ◌≢◌, ℕ, suc, ◌+◌, ◌≤◌
 use Rattle.std.specs.Prelude.{◌==◌, ◌||◌, All, map, slice_index}
 use Rattle.std.specs.List.{list_any}
 use Rattle.std.proofs.lemmas.Bool.{eqb-true}
-use Rattle.std.proofs.lemmas.List.{get_or-set_same, get_or-set_other, length-set}
+use Rattle.std.proofs.lemmas.List.{get_or-set_same, get_or-set_other, length-set, map_push}
 use Rattle.bl_format.specs.Words.{contains, numbers_below}
 use Rattle.bl_format.specs.declared.catalogue.MemberEntry.{MemberEntry}
 use Rattle.bl_layout.specs.Identifiers.{IsFirstDuplicate, number_of_member, stood_before}
@@ -41,12 +41,8 @@ any-append p (y ∷ ys) x = go (p y) (any-append p ys x)
     go true e = refl
     go false e = e
 
-pub map-push : {A B : Type 0} (f : A → B) (xs : List A) (x : A) → map f (xs ++ x ∷ []) ≡ map f xs ++ f x ∷ []
-map-push f [] x = refl
-map-push f (y ∷ ys) x = ap (λ zs. f y ∷ zs) (map-push f ys x)
-
 pub contains-more : (f : ℕ → ℕ) (k i : ℕ) → contains (map f (numbers_below (suc k))) i ≡ (contains (map f (numbers_below k)) i || (f k == i))
-contains-more f k i = ap (λ (xs : List ℕ). contains xs i) (map-push f (numbers_below k) k) ∙ any-append (λ y. y == i) (map f (numbers_below k)) (f k)
+contains-more f k i = ap (λ (xs : List ℕ). contains xs i) (map_push f (numbers_below k) k) ∙ any-append (λ y. y == i) (map f (numbers_below k)) (f k)
 
 -- one member more, whose identifier didn't stand before
 pub AreMarks-push : (numbers : List ℕ) (members : List MemberEntry) (mark : ℕ) (marks : List ℕ) (k number : ℕ)

@@ -2,7 +2,7 @@
 use Rattle.std.proofs.Common.{◌≡◌, ℕ, zero, suc, ◌+◌, ◌≤◌, ◌<◌, Bool, true, false, cond, eqb, List, [], ◌∷◌, ◌++◌, length, get_or, take, map, Option, Some, None, refl, sym, ◌∙◌, ap, arith, inl, inr}
 use Rattle.std.specs.Prelude.{◌==◌, filter_map, if◌then◌else◌}
 use Rattle.std.specs.List.{position_from, cons_option}
-use Rattle.std.proofs.lemmas.Bool.{eqb-true, cases_lt}
+use Rattle.std.proofs.lemmas.Bool.{eqb-true, or_cases}
 use Rattle.std.proofs.lemmas.List.{take_more, length-map, take_all, get_or_default}
 use Rattle.std.proofs.Math.ListN.{get_or-map}
 use Rattle.std.specs.declared.vec.Vec.{Vec}
@@ -12,9 +12,9 @@ use Rattle.bl_format.specs.declared.catalogue.Catalogue.{Catalogue}
 use Rattle.bl_format.specs.declared.catalogue.StructEntry.{StructEntry}
 use Rattle.bl_format.specs.declared.catalogue.MemberEntry.{MemberEntry}
 use Rattle.bl_format.specs.Layout.{Basic, basic_or_struct, basic_named, type_entry, struct_of_type, struct_entry, member_entry, member_count, name_of, content_of, struct_of_content, inner_struct, inner_structs, holds_struct, leads_back}
+use Rattle.bl_format.proofs.NoneInItself.{contains-given}
 use Rattle.bl_layout.specs.Sizes.{inner_of, parts_of}
 use Rattle.bl_layout.specs.Graph.{AreInnerStructs, inner_among, links_of, leads, reaches, StaysInside}
-use Rattle.bl_layout.proofs.SearchLemmas.{or_true, in_left, in_right, one_in}
 
 -- the struct that a member is, by its entry
 pub inner_struct-inner_of : (c : Catalogue) (s k : ℕ) → inner_struct c s k ≡ inner_of c (member_entry c s k)
@@ -96,7 +96,7 @@ among_inside c (m ∷ ms) t e = go (inner_of c m) refl (among_inside c ms t) e
   where
     go : (o : Option ℕ) → inner_of c m ≡ o → (contains (inner_among c ms) t ≡ true → t < length c.structs) → contains (cons_option o (inner_among c ms)) t ≡ true → t < length c.structs
     go None is rest e = rest e
-    go (Some u) is rest e = elim (or_true (eqb u t) (contains (inner_among c ms) t) e) [
+    go (Some u) is rest e = elim (or_cases (eqb u t) (contains (inner_among c ms) t) e) [
       | inl same ↦ (let at : u ≡ t = eqb-true u t same in rw (← at) (inner_inside c m u is))
       | inr later ↦ rest later
     ]
@@ -116,15 +116,7 @@ back_at c s k members d back same lt is =
     let entry : get_or members k d ≡ member_entry c s k = get_or_default members k d far lt ∙ ap (λ (xs : List MemberEntry). get_or xs k far) same in
     ap (leads_back c s) (inner_struct-inner_of c s k) ∙ sym (is ∙ ap (λ (m : MemberEntry). leads_back c s (inner_of c m)) entry)
 
--- a number below n for which something is found gives an element
-found_in : (f : ℕ → Option ℕ) (n k t : ℕ) → k < n → f k ≡ Some t → contains (filter_map f (numbers_below n)) t ≡ true
-found_in f zero k t lt e = absurd (omega arith)
-found_in f (suc n) k t lt e = elim (cases_lt k n) [
-  | inl less ↦ rw (filter_map-push f (numbers_below n) n) (in_left (filter_map f (numbers_below n)) (cons_option (f n) []) t (found_in f n k t less e))
-  | inr most ↦ (let is : n ≡ k = omega arith in rw (filter_map-push f (numbers_below n) n, is, e) (in_right (filter_map f (numbers_below k)) (t ∷ []) t (one_in t)))
-]
-
 -- a struct that a member is by value is one of the links
 pub inner_held : (c : Catalogue) (inner : List (Vec ℕ Global)) (s k t : ℕ) → AreInnerStructs c inner → k < member_count c s → inner_struct c s k ≡ Some t → leads (links_of inner) s t ≡ true
 inner_held c inner s k t are lt e =
-    ap (λ (ls : List ℕ). contains ls t) (links-inner c inner s are) ∙ found_in (inner_struct c s) (member_count c s) k t lt e
+    ap (λ (ls : List ℕ). contains ls t) (links-inner c inner s are) ∙ contains-given (inner_struct c s) (member_count c s) k t lt e

@@ -3,38 +3,25 @@ use Rattle.std.proofs.Common.{◌≡◌, ℕ, zero, suc, ◌+◌, ◌<◌, ◌�
 use Rattle.std.specs.declared.vec.Vec.{Vec}
 use Rattle.std.specs.declared.alloc.Global.{Global}
 use Rattle.std.proofs.lemmas.Bool.{cases_lt, cases_eq}
-use Rattle.std.proofs.lemmas.List.{length-map, length-set, ext_get_or, get_or_append_left, get_or_push, get_or-set_same, get_or-set_other}
+use Rattle.std.proofs.lemmas.List.{length-map, length-set, ext_get_or, get_or-set_same, get_or-set_other}
 use Rattle.bl_num.specs.declared.number.Width.{Width}
 use Rattle.bl_format.specs.declared.catalogue.Catalogue.{Catalogue}
 use Rattle.bl_format.specs.declared.layout.Leaf.{Leaf}
 use Rattle.bl_format.specs.Words.{numbers_below}
 use Rattle.bl_format.specs.Limits.{deepest_nesting}
 use Rattle.bl_format.specs.Layout.{struct_numbers, member_count, member_offset, nesting, leaves_of, first_fault, depth_fault}
+use Rattle.bl_format.proofs.NumbersBelow.{get_or-by, length-numbers_below}
 use Rattle.bl_layout.specs.Graph.{links_of}
 use Rattle.bl_layout.specs.Check.{AreOffsets, offsets_in}
 use Rattle.bl_layout.specs.Nesting.{nestings_in}
 use Rattle.bl_layout.specs.Leaves.{StandBelow, InnerStand, lists_of}
-use Rattle.bl_layout.proofs.DuplicateLemmas.{map-push}
 use Rattle.bl_layout.proofs.SearchLemmas.{length-links_of, links_at}
-use Rattle.bl_layout.proofs.NestingLemmas.{length-below}
 use Rattle.bl_layout.proofs.UnfoldLemmas.{inner-nesting, inner-within, nesting-limit, nesting-some}
 
 -- ---- lists by numbers
 
--- what stands at a number below n
-pub at_below : {A : Type 0} (f : ℕ → A) (n t : ℕ) (d : A) → t < n → get_or (map f (numbers_below n)) t d ≡ f t
-at_below f zero t d lt = absurd (omega arith)
-at_below f (suc n) t d lt = elim (cases_lt t n) [
-  | inl less ↦ (ap (λ xs. get_or xs t d) (map-push f (numbers_below n) n)
-      ∙ get_or_append_left (map f (numbers_below n)) (f n ∷ []) d t (omega (arith, length-map (numbers_below n) f, length-below n))
-      ∙ at_below f n t d less)
-  | inr most ↦ (let is : t ≡ n = omega arith in
-      ap (λ xs. get_or xs t d) (map-push f (numbers_below n) n)
-      ∙ get_or_push (map f (numbers_below n)) (f n) d t (length-map (numbers_below n) f ∙ length-below n ∙ sym is) ∙ ap f (sym is))
-]
-
 pub length-by : {A : Type 0} (f : ℕ → A) (n : ℕ) → length (map f (numbers_below n)) ≡ n
-length-by f n = length-map (numbers_below n) f ∙ length-below n
+length-by f n = length-map (numbers_below n) f ∙ length-numbers_below n
 
 -- ---- where members stand
 
@@ -42,7 +29,7 @@ length-by f n = length-map (numbers_below n) f ∙ length-below n
 pub offsets-row : (c : Catalogue) (w : Width) (offsets : List (Vec ℕ Global)) (s : ℕ)
     → AreOffsets c w offsets → s < length c.structs → get_or (links_of offsets) s [] ≡ offsets_in c w s
 offsets-row c w offsets s are lt =
-    ap (λ (xs : List (List ℕ)). get_or xs s []) are ∙ at_below (offsets_in c w) (length c.structs) s [] lt
+    ap (λ (xs : List (List ℕ)). get_or xs s []) are ∙ get_or-by (offsets_in c w) (length c.structs) s [] lt
 
 pub offsets-len : (c : Catalogue) (w : Width) (offsets : List (Vec ℕ Global))
     → AreOffsets c w offsets → length offsets ≡ length c.structs
@@ -63,7 +50,7 @@ row-as_held c w offsets held s v row are same lt at is =
 pub offset-at : (c : Catalogue) (w : Width) (row : List ℕ) (s k : ℕ)
     → row ≡ offsets_in c w s → k < member_count c s → get_or row k 0 ≡ member_offset c w s k
 offset-at c w row s k is lt =
-    ap (λ (xs : List ℕ). get_or xs k 0) is ∙ at_below (member_offset c w s) (member_count c s) k 0 lt
+    ap (λ (xs : List ℕ). get_or xs k 0) is ∙ get_or-by (member_offset c w s) (member_count c s) k 0 lt
 
 pub row-len : (c : Catalogue) (w : Width) (row : List ℕ) (s : ℕ)
     → row ≡ offsets_in c w s → length row ≡ member_count c s
@@ -77,7 +64,7 @@ nestings-len c held is = ap length is ∙ length-by (nesting c) (length c.struct
 pub nesting-at : (c : Catalogue) (held : List ℕ) (s : ℕ)
     → held ≡ nestings_in c → s < length c.structs → get_or held s 0 ≡ nesting c s
 nesting-at c held s is lt =
-    ap (λ (xs : List ℕ). get_or xs s 0) is ∙ at_below (nesting c) (length c.structs) s 0 lt
+    ap (λ (xs : List ℕ). get_or xs s 0) is ∙ get_or-by (nesting c) (length c.structs) s 0 lt
 
 -- ---- the table
 
@@ -168,4 +155,4 @@ pub Below-all : (c : Catalogue) (w : Width) (table : List (List Leaf))
 Below-all c w table stands e =
     ext_get_or [] table (map (leaves_of c w) (struct_numbers c)) (stands.len ∙ sym (length-by (leaves_of c w) (length c.structs)))
     (λ s lt. (let inside : s < length c.structs = omega (arith, stands.len) in
-    stands.stand s inside (omega (arith, nesting-limit c s e inside)) ∙ sym (at_below (leaves_of c w) (length c.structs) s [] inside)))
+    stands.stand s inside (omega (arith, nesting-limit c s e inside)) ∙ sym (get_or-by (leaves_of c w) (length c.structs) s [] inside)))

@@ -4,7 +4,7 @@ use Rattle.std.specs.Prelude.{◌==◌, option_map, unwrap_or, nat_lt, if◌then
 use Rattle.std.specs.List.{prefix_len}
 use Rattle.std.specs.Char.{is_ascii_digit}
 use Rattle.std.specs.Str.{byte}
-use Rattle.std.proofs.lemmas.Bool.{lt-ltb}
+use Rattle.std.proofs.lemmas.Bool.{lt-ltb, and_parts}
 use Rattle.std.proofs.lemmas.Bool.Decides.{nat_tests}
 use Rattle.std.proofs.lemmas.List.{length-drop, length-take}
 use Rattle.std.proofs.lemmas.List.Sums.{prefix_len-le-length}
@@ -15,10 +15,6 @@ use Rattle.bl_format.specs.Limits.{most_elements}
 use Rattle.bl_format.specs.Members.{MemberName, member_name, other_name, within_count, function_name, function_parts, extents, number_in, product, is_word_byte, plain_parts, plain_name}
 use Rattle.bl_layout.specs.declared.member_names.NameShape.{NameShape}
 use Rattle.bl_layout.specs.MemberNames.{name_parts, shape_of_name, bounded_count, bounded_shape, bracket_count, opens_number}
-
-and_left : (a b : Bool) → (a && b) ≡ true → a ≡ true
-and_left true b e = refl
-and_left false b e = e
 
 -- there are brackets where there is any text
 brackets_of : (text ns : List ℕ) → extents (length text) text ≡ Some ns → nat_lt 0 (length ns) ≡ nat_lt 0 (length text)
@@ -89,7 +85,7 @@ function_stands name m e = go (bytes_eq (take 2 name) (codes "(*") && nat_lt 0 n
         → (if b then Some (function_parts name n) else None) ≡ Some m → StandsIn name m
     go true t e =
         let is : m ≡ function_parts name n = cc in
-        let two : take 2 name ≡ codes "(*" = (bytes_eq-Decides (take 2 name) (codes "(*")).0 (and_left _ _ (and_left _ _ t)) in
+        let two : take 2 name ≡ codes "(*" = (bytes_eq-Decides (take 2 name) (codes "(*")).0 (and_parts _ _ (and_parts _ _ t).0).0 in
         let long : 2 ≤ length name = omega (arith, ap length two, length-take 2 name) in
         rw is (word_stands name (function_parts name n) n refl (prefix_len-le-length is_word_byte (drop 2 name)) long)
     go false t e = absurd cc

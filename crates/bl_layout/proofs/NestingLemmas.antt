@@ -1,20 +1,20 @@
 -- The nesting of structs: what a round gives, what a round that changes nothing shows, and the limit.
-use Rattle.std.proofs.Common.{◌≡◌, ℕ, zero, suc, ◌+◌, ◌≤◌, ◌<◌, true, eqb, List, [], ◌∷◌, ◌++◌, length, get_or, take, drop, map, refl, sym, ◌∙◌, ap, arith, inl, inr, eq-eqb}
+use Rattle.std.proofs.Common.{◌≡◌, ℕ, zero, suc, ◌+◌, ◌≤◌, ◌<◌, true, eqb, List, [], ◌∷◌, ◌++◌, length, get_or, take, drop, map, refl, sym, ◌∙◌, ap, arith, eq-eqb}
 use Rattle.std.specs.Option.{option_or}
 use Rattle.std.specs.Prelude.{Option, All, max, min, fold, replicate, slice_index}
 use Rattle.std.specs.declared.vec.Vec.{Vec}
 use Rattle.std.specs.declared.alloc.Global.{Global}
-use Rattle.std.proofs.lemmas.Bool.{cases_lt}
-use Rattle.std.proofs.lemmas.List.{length-map, length-append, take_all, take_more, get_or_append_left, get_or_push, drop_more}
+use Rattle.std.proofs.lemmas.Bool.{or_left, or_right}
+use Rattle.std.proofs.lemmas.List.{length-map, take_all, take_more, drop_more, map_push}
 use Rattle.std.proofs.lemmas.List.Elements.{All-cons}
-use Rattle.bl_layout.proofs.DuplicateLemmas.{map-push}
 use Rattle.bl_format.specs.Words.{contains, numbers_below, find_map}
 use Rattle.bl_format.specs.declared.catalogue.Catalogue.{Catalogue}
 use Rattle.bl_format.specs.Layout.{inner_structs, nesting_within, nesting, struct_numbers, depth_fault}
+use Rattle.bl_format.proofs.NumbersBelow.{length-numbers_below, get_or-by}
+use Rattle.bl_format.proofs.NewLengths.{map_same}
 use Rattle.bl_layout.specs.Graph.{AreInnerStructs, links_of}
 use Rattle.bl_layout.specs.Nesting.{deeper_by_one, next_nestings, nestings_in, fault_of_nesting}
 use Rattle.bl_layout.proofs.GraphLemmas.{links-inner, links-len, links_inside}
-use Rattle.bl_layout.proofs.SearchLemmas.{or_left, or_right}
 
 -- the deepest of some numbers, each cut at k
 deepest_cut : (k a : ℕ) (f : ℕ → ℕ) (g : ℕ → ℕ) (row : List ℕ) → ((t : ℕ) → contains row t ≡ true → f t ≡ min k (g t))
@@ -48,31 +48,17 @@ nesting_fixed c inner n are fixed (suc k) s lt =
     ∙ ap suc cut
     ∙ omega (arith, own)
 
--- as many numbers as are below n
-pub length-below : (n : ℕ) → length (numbers_below n) ≡ n
-length-below zero = refl
-length-below (suc n) = omega (arith, length-append (numbers_below n) (n ∷ []), length-below n)
-
 -- a list by its numbers
 numbers_take : (xs : List ℕ) (n : ℕ) → n ≤ length xs → map (slice_index xs) (numbers_below n) ≡ take n xs
 numbers_take xs zero le = refl
 numbers_take xs (suc n) le =
     let next : suc n ≡ n + 1 = omega arith in
-    map-push (slice_index xs) (numbers_below n) n
+    map_push (slice_index xs) (numbers_below n) n
     ∙ ap (λ (ys : List ℕ). ys ++ slice_index xs n ∷ []) (numbers_take xs n (omega arith))
     ∙ sym (ap (λ (m : ℕ). take m xs) next ∙ take_more xs n 0 (omega arith))
 
 pub by_numbers : (xs : List ℕ) → map (slice_index xs) (numbers_below (length xs)) ≡ xs
 by_numbers xs = numbers_take xs (length xs) (omega arith) ∙ take_all (length xs) xs (omega arith)
-
--- functions that agree on the numbers below n
-pub map_same : {A : Type 0} (f g : ℕ → A) (n : ℕ) → ((k : ℕ) → k < n → f k ≡ g k) → map f (numbers_below n) ≡ map g (numbers_below n)
-map_same f g zero same = refl
-map_same f g (suc n) same =
-    map-push f (numbers_below n) n
-    ∙ ap (λ xs. xs ++ f n ∷ []) (map_same f g n (λ k lt. same k (omega arith)))
-    ∙ ap (λ x. map g (numbers_below n) ++ x ∷ []) (same n (omega arith))
-    ∙ sym (map-push g (numbers_below n) n)
 
 map-map : (f : ℕ → ℕ) (g : ℕ → ℕ) (xs : List ℕ) → map f (map g xs) ≡ map (λ x. f (g x)) xs
 map-map f g [] = refl
@@ -109,15 +95,7 @@ nestings_within k c = map (nesting_within k c) (struct_numbers c)
 
 -- what stands at a number below n
 pub at_number : (f : ℕ → ℕ) (n t : ℕ) → t < n → slice_index (map f (numbers_below n)) t ≡ f t
-at_number f zero t lt = absurd (omega arith)
-at_number f (suc n) t lt = elim (cases_lt t n) [
-  | inl less ↦ (ap (λ (xs : List ℕ). slice_index xs t) (map-push f (numbers_below n) n)
-      ∙ get_or_append_left (map f (numbers_below n)) (f n ∷ []) 0 t (omega (arith, length-map (numbers_below n) f, length-below n))
-      ∙ at_number f n t less)
-  | inr most ↦ (let is : t ≡ n = omega arith in
-      ap (λ (xs : List ℕ). slice_index xs t) (map-push f (numbers_below n) n)
-      ∙ get_or_push (map f (numbers_below n)) (f n) 0 t (length-map (numbers_below n) f ∙ length-below n ∙ sym is) ∙ ap f (sym is))
-]
+at_number f n t lt = get_or-by f n t 0 lt
 
 fold_same : (f g : ℕ → ℕ) (a : ℕ) (row : List ℕ) → ((t : ℕ) → contains row t ≡ true → f t ≡ g t) → fold max a (map f row) ≡ fold max a (map g row)
 fold_same f g a [] same = refl
@@ -150,7 +128,7 @@ replicate_push (suc m) x = ap (λ (xs : List ℕ). x ∷ xs) (replicate_push m x
 zeros_none : (c : Catalogue) (n : ℕ) → map (nesting_within 0 c) (numbers_below n) ≡ replicate n 0
 unfolding nesting_within
 zeros_none c zero = refl
-zeros_none c (suc n) = map-push (nesting_within 0 c) (numbers_below n) n ∙ ap (λ (xs : List ℕ). xs ++ 0 ∷ []) (zeros_none c n) ∙ replicate_push n 0
+zeros_none c (suc n) = map_push (nesting_within 0 c) (numbers_below n) n ∙ ap (λ (xs : List ℕ). xs ++ 0 ∷ []) (zeros_none c n) ∙ replicate_push n 0
 
 pub nestings_start : (c : Catalogue) (n : ℕ) → n ≡ length c.structs → replicate n 0 ≡ nestings_within 0 c
 nestings_start c n is = ap (λ (m : ℕ). replicate m 0) is ∙ sym (zeros_none c (length c.structs))
@@ -164,7 +142,7 @@ nestings_small c k bound le = small (struct_numbers c)
     small (s ∷ ss) = All-cons (λ n. n ≤ bound) (nesting_within k c s) (map (nesting_within k c) ss) (omega (arith, within_most c k s)) (small ss)
 
 pub nestings-len : (c : Catalogue) (k : ℕ) → length (nestings_within k c) ≡ length c.structs
-nestings-len c k = length-map (numbers_below (length c.structs)) (nesting_within k c) ∙ length-below (length c.structs)
+nestings-len c k = length-map (numbers_below (length c.structs)) (nesting_within k c) ∙ length-numbers_below (length c.structs)
 
 find_map-map : {X : Type 0} (g : ℕ → Option X) (h : ℕ → ℕ) (f : ℕ → Option X) (xs : List ℕ) → ((x : ℕ) → f x ≡ g (h x)) → find_map f xs ≡ find_map g (map h xs)
 find_map-map g h f [] same = refl

@@ -10,22 +10,16 @@ use Rattle.bl_num.specs.declared.number.Width.{Width}
 use Rattle.bl_format.specs.declared.catalogue.Catalogue.{Catalogue}
 use Rattle.bl_format.specs.declared.catalogue.StructEntry.{StructEntry}
 use Rattle.bl_format.specs.declared.catalogue.MemberEntry.{MemberEntry}
-use Rattle.std.proofs.lemmas.List.{get_or_default}
+use Rattle.std.proofs.lemmas.List.{get_or_default, map_push}
 use Rattle.bl_format.specs.declared.layout.LayoutFault.{LayoutFault}
 use Rattle.bl_format.specs.Words.{find_map, numbers_below}
 use Rattle.bl_format.specs.Layout.{struct_entry, member_entry, member_count, member_size, element_size, name_of, member_offset, member_fault, struct_length, is_duplicate, leads_back, inner_struct, has_bad_name, has_bad_length, overruns}
+use Rattle.bl_format.proofs.MemberPasses.{find_map-append}
 use Rattle.bl_layout.specs.Check.{IsFirstBack, IsFirstRepeat, struct_fault}
 use Rattle.bl_layout.specs.Sizes.{size_of}
 
-or_assoc : {X : Type 0} (a b d : Option X) → option_or (option_or a b) d ≡ option_or a (option_or b d)
-or_assoc None b d = refl
-or_assoc (Some x) b d = refl
-
-find_map-append : {A X : Type 0} (f : A → Option X) (xs ys : List A) → find_map f (xs ++ ys) ≡ option_or (find_map f xs) (find_map f ys)
-find_map-append f [] ys = refl
-find_map-append f (x ∷ xs) ys = ap (option_or (f x)) (find_map-append f xs ys) ∙ sym (or_assoc (f x) (find_map f xs) (find_map f ys))
-
-or_none : {X : Type 0} (o : Option X) → option_or o None ≡ o
+-- nothing behind an option changes nothing
+pub or_none : {X : Type 0} (o : Option X) → option_or o None ≡ o
 or_none None = refl
 or_none (Some x) = refl
 
@@ -45,17 +39,13 @@ find_map-first f k (suc n) x before here lt = elim (cases_lt k n) [
   | inr most ↦ (let at : n ≡ k = omega arith in rw (find_map-more f n, at, before, here) refl)
 ]
 
-map-push : {A X : Type 0} (f : A → X) (xs : List A) (x : A) → map f (xs ++ x ∷ []) ≡ map f xs ++ f x ∷ []
-map-push f [] x = refl
-map-push f (y ∷ ys) x = ap (λ zs. f y ∷ zs) (map-push f ys x)
-
 -- where the next member stands
 pub member_offset-suc : (c : Catalogue) (w : Width) (s k : ℕ) → member_offset c w s (suc k) ≡ member_offset c w s k + size_of c w (member_entry c s k)
 unfolding member_offset member_size element_size name_of
-member_offset-suc c w s k = ap sum (map-push (member_size c w s) (numbers_below k) k) ∙ sum_by_push (λ x. x) (map (member_size c w s) (numbers_below k)) (member_size c w s k)
+member_offset-suc c w s k = ap sum (map_push (member_size c w s) (numbers_below k) k) ∙ sum_by_push (λ x. x) (map (member_size c w s) (numbers_below k)) (member_size c w s k)
 
 pub numbers-push : {X : Type 0} (f : ℕ → X) (k m : ℕ) → m ≡ k + 1 → map f (numbers_below m) ≡ map f (numbers_below k) ++ f k ∷ []
-numbers-push f k m is = let s : m ≡ suc k = omega arith in rw s (map-push f (numbers_below k) k)
+numbers-push f k m is = let s : m ≡ suc k = omega arith in rw s (map_push f (numbers_below k) k)
 
 -- what a member without a fault passes
 pub record Passes (c : Catalogue) (w : Width) (s k : ℕ) : Type 0 where

@@ -2,7 +2,7 @@
 use Rattle.std.proofs.Common.{◌≡◌, ℕ, zero, suc, eq-eqb, ◌≤◌, ◌<◌, Bool, true, false, eqb, List, [], ◌∷◌, length, get_or, Option, Some, None, refl, sym, ◌∙◌, ap, arith, inl, inr}
 use Rattle.std.specs.Prelude.{◌&&◌, slice_index, nat_lt}
 use Rattle.std.specs.List.{list_all}
-use Rattle.std.proofs.lemmas.Bool.{ltb-true, eqb-true}
+use Rattle.std.proofs.lemmas.Bool.{ltb-true, eqb-true, or_cases, or_left, or_right}
 use Rattle.std.specs.declared.vec.Vec.{Vec}
 use Rattle.std.specs.declared.alloc.Global.{Global}
 use Rattle.bl_format.specs.Words.{contains, IsChain}
@@ -11,7 +11,7 @@ use Rattle.bl_format.specs.Layout.{member_count, inner_struct, leads_back}
 use Rattle.bl_format.proofs.Closure.{numbers_reached-chain}
 use Rattle.bl_layout.specs.Check.{IsFirstBack}
 use Rattle.bl_layout.specs.Graph.{AreInnerStructs, AreRanks, links_of, leads, reaches, StaysInside}
-use Rattle.bl_layout.proofs.SearchLemmas.{in_one, or_true, or_left, or_right}
+use Rattle.bl_layout.proofs.SearchLemmas.{in_one}
 use Rattle.bl_layout.proofs.GraphLemmas.{leads_back-reaches, inner_held}
 
 -- no rank rises along a chain
@@ -37,7 +37,7 @@ all_at p [] x all e = absurd cc
 all_at p (y ∷ ys) x all e = go (p y) refl all (λ rest. all_at p ys x rest)
   where
     go : (b : Bool) → p y ≡ b → (b && list_all p ys) ≡ true → (list_all p ys ≡ true → contains ys x ≡ true → p x ≡ true) → p x ≡ true
-    go true is all later = elim (or_true (eqb y x) (contains ys x) e) [
+    go true is all later = elim (or_cases (eqb y x) (contains ys x) e) [
       | inl same ↦ (let at : y ≡ x = eqb-true y x same in rw (← at) is)
       | inr held ↦ later all held
     ]

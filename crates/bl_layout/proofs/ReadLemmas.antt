@@ -3,13 +3,8 @@ use Rattle.std.proofs.Common.{ℕ, zero, suc, ◌≤◌, ◌<◌, ◌^◌, List,
 use Rattle.std.specs.Prelude.{All, flat_map, codes}
 use Rattle.bl_num.specs.Numbers.{bytes_of}
 use Rattle.bl_format.specs.declared.catalogue.Catalogue.{Catalogue}
-use Rattle.bl_format.specs.Schema.{CanBeRead, IsCatalogue, IsPayload, name_written, names_part, types_part, lengths_part, structs_part}
-use Rattle.bl_format.proofs.CatalogueRead.{IsCatalogue-catalogue_of}
+use Rattle.bl_format.specs.Schema.{CanBeRead, IsPayload, name_written, names_part, types_part, lengths_part, structs_part}
 use Rattle.bl_format.proofs.CatalogueSpelled.{IsPayload-catalogue_of}
-
--- a catalogue that can be read is one by the grammar
-pub can_be_read-IsCatalogue : (c : Catalogue) → CanBeRead c → IsCatalogue c
-can_be_read-IsCatalogue c read = IsCatalogue-catalogue_of read.order read.payload c read.bytes read.reads
 
 -- a name is shorter than all names as they are written
 name_shorter : (names : List (List ℕ)) (k : ℕ) (d : List ℕ) → k < length names → length (get_or names k d) < length (flat_map name_written names)

@@ -4,7 +4,7 @@ use Rattle.std.specs.Prelude.{◌==◌, ◌||◌, slice_index}
 use Rattle.std.specs.List.{list_any}
 use Rattle.std.specs.Str.{bytes_eq}
 use Rattle.std.proofs.lemmas.Bool.{eqb-true}
-use Rattle.std.proofs.lemmas.List.{get_or_default}
+use Rattle.std.proofs.lemmas.List.{get_or_default, map_push}
 use Rattle.bl_format.specs.Words.{numbers_below}
 use Rattle.bl_format.specs.declared.catalogue.Catalogue.{Catalogue}
 use Rattle.bl_format.specs.declared.catalogue.MemberEntry.{MemberEntry}
@@ -15,7 +15,7 @@ use Rattle.bl_layout.specs.Tables.{numbered}
 use Rattle.bl_layout.specs.Check.{IsFirstRepeat}
 use Rattle.bl_layout.proofs.NumberedLemmas.{numbered_inside, identifier_at}
 use Rattle.bl_layout.proofs.IdentifierLemmas.{bool_same}
-use Rattle.bl_layout.proofs.DuplicateLemmas.{any-append, map-push}
+use Rattle.bl_layout.proofs.DuplicateLemmas.{any-append}
 use Rattle.bl_layout.proofs.CheckLemmas.{member_fits}
 
 -- tests that agree on each number below n
@@ -23,10 +23,10 @@ any_same : {A B : Type 0} (p : A → Bool) (q : B → Bool) (f : ℕ → A) (g :
     → ((j : ℕ) → j < n → p (f j) ≡ q (g j)) → list_any p (map f (numbers_below n)) ≡ list_any q (map g (numbers_below n))
 any_same p q f g zero same = refl
 any_same p q f g (suc n) same =
-    ap (list_any p) (map-push f (numbers_below n) n) ∙ any-append p (map f (numbers_below n)) (f n)
+    ap (list_any p) (map_push f (numbers_below n) n) ∙ any-append p (map f (numbers_below n)) (f n)
     ∙ ap (λ (b : Bool). b || p (f n)) (any_same p q f g n (λ j lt. same j (omega arith)))
     ∙ ap (λ (b : Bool). list_any q (map g (numbers_below n)) || b) (same n (omega arith))
-    ∙ sym (ap (list_any q) (map-push g (numbers_below n) n) ∙ any-append q (map g (numbers_below n)) (g n))
+    ∙ sym (ap (list_any q) (map_push g (numbers_below n) n) ∙ any-append q (map g (numbers_below n)) (g n))
 
 eqb_sym : (a b : ℕ) → eqb a b ≡ eqb b a
 eqb_sym a b = bool_same (eqb a b) (eqb b a) (λ e. eq-eqb b a (sym (eqb-true a b e))) (λ e. eq-eqb a b (sym (eqb-true b a e)))

@@ -2,10 +2,11 @@
 use Rattle.std.proofs.Common.{◌≡◌, ◌≢◌, ℕ, zero, suc, ◌+◌, ◌<◌, Bool, true, false, eqb, List, [], ◌∷◌, ◌++◌, length, get_or, set, refl, sym, ◌∙◌, ap, arith, inl, inr, eq-eqb}
 use Rattle.std.specs.Prelude.{◌||◌, ◌==◌, ◌⊎◌}
 use Rattle.std.specs.List.{list_any}
-use Rattle.std.proofs.lemmas.Bool.{eqb-true, cases_lt}
+use Rattle.std.proofs.lemmas.Bool.{eqb-true, or_cases, or_left, or_right}
 use Rattle.std.proofs.lemmas.List.{get_or-set_same, get_or-set_other}
-use Rattle.bl_format.specs.Words.{contains, numbers_below, numbers_reached, IsChain}
-use Rattle.bl_format.proofs.Closure.{chain-numbers_reached, numbers_reached-closed, numbers_reached-chain}
+use Rattle.bl_format.specs.Words.{contains, numbers_reached, IsChain}
+use Rattle.bl_format.proofs.Closure.{chain-numbers_reached, numbers_reached-closed, numbers_reached-chain, contains-any}
+use Rattle.bl_format.proofs.NoneInItself.{contains-below}
 use Rattle.std.specs.declared.vec.Vec.{Vec}
 use Rattle.std.specs.declared.alloc.Global.{Global}
 use Rattle.bl_layout.specs.Graph.{links_of, leads, reaches, is_marked, KeepsApart, StaysInside}
@@ -35,17 +36,6 @@ pub record IsSearch (links : List (List ℕ)) (t s : ℕ) (marks : List Bool) (s
   pub apart : is_marked marks s ≡ false
   pub start : (is_marked marks t || contains stack t) ≡ true
 
-pub or_true : (a b : Bool) → (a || b) ≡ true → (a ≡ true) ⊎ (b ≡ true)
-or_true true b e = inl refl
-or_true false b e = inr e
-
-pub or_left : (a b : Bool) → a ≡ true → (a || b) ≡ true
-or_left a b e = rw e refl
-
-pub or_right : (a b : Bool) → b ≡ true → (a || b) ≡ true
-or_right true b e = refl
-or_right false b e = e
-
 any-both : {A : Type 0} (p : A → Bool) (xs ys : List A) → list_any p (xs ++ ys) ≡ (list_any p xs || list_any p ys)
 any-both p [] ys = refl
 any-both p (x ∷ xs) ys = go (p x) (any-both p xs ys)
@@ -55,7 +45,7 @@ any-both p (x ∷ xs) ys = go (p x) (any-both p xs ys)
     go false e = e
 
 in_both : (xs ys : List ℕ) (y : ℕ) → contains (xs ++ ys) y ≡ true → (contains xs y ≡ true) ⊎ (contains ys y ≡ true)
-in_both xs ys y e = or_true (contains xs y) (contains ys y) (sym (any-both (λ z. z == y) xs ys) ∙ e)
+in_both xs ys y e = or_cases (contains xs y) (contains ys y) (sym (any-both (λ z. z == y) xs ys) ∙ e)
 
 pub in_left : (xs ys : List ℕ) (y : ℕ) → contains xs y ≡ true → contains (xs ++ ys) y ≡ true
 in_left xs ys y e = any-both (λ z. z == y) xs ys ∙ or_left (contains xs y) (contains ys y) e
@@ -64,35 +54,20 @@ pub in_right : (xs ys : List ℕ) (y : ℕ) → contains ys y ≡ true → conta
 in_right xs ys y e = any-both (λ z. z == y) xs ys ∙ or_right (contains xs y) (contains ys y) e
 
 pub in_one : (x y : ℕ) → contains (x ∷ []) y ≡ true → x ≡ y
-in_one x y e = elim (or_true (eqb x y) false e) [ inl same ↦ eqb-true x y same | inr other ↦ absurd (let f : false ≡ true = other in cc) ]
+in_one x y e = elim (or_cases (eqb x y) false e) [ inl same ↦ eqb-true x y same | inr other ↦ absurd (let f : false ≡ true = other in cc) ]
 
 pub one_in : (x : ℕ) → contains (x ∷ []) x ≡ true
 one_in x = or_left (eqb x x) false (eq-eqb x x refl)
 
-any_of : (p : ℕ → Bool) (xs : List ℕ) (x : ℕ) → contains xs x ≡ true → p x ≡ true → list_any p xs ≡ true
-any_of p [] x h e = absurd cc
-any_of p (z ∷ zs) x h e = elim (or_true (eqb z x) (contains zs x) h) [
-  | inl same ↦ (let is : z ≡ x = eqb-true z x same in or_left (p z) (list_any p zs) (rw is e))
-  | inr later ↦ or_right (p z) (list_any p zs) (any_of p zs x later e)
-]
-
--- a number below n is one of those below n
-pub below : (n x : ℕ) → x < n → contains (numbers_below n) x ≡ true
-below zero x lt = absurd (omega arith)
-below (suc n) x lt = elim (cases_lt x n) [
-  | inl less ↦ in_left (numbers_below n) (n ∷ []) x (below n x less)
-  | inr most ↦ (let is : x ≡ n = omega arith in rw is (in_right (numbers_below n) (n ∷ []) n (one_in n)))
-]
-
 -- a number is reached from itself
 pub reaches_itself : (links : List (List ℕ)) (t : ℕ) → t < length links → reaches links t t ≡ true
-reaches_itself links t lt = chain-numbers_reached (leads links) (length links) (t ∷ []) t [] t (below (length links) t lt) (one_in t) tt refl
+reaches_itself links t lt = chain-numbers_reached (leads links) (length links) (t ∷ []) t [] t (contains-below (length links) t lt) (one_in t) tt refl
 
 -- a link further is reached
 reaches_on : (links : List (List ℕ)) (t x y : ℕ) → StaysInside links → reaches links t x ≡ true → leads links x y ≡ true → reaches links t y ≡ true
 reaches_on links t x y inside e link =
-    numbers_reached-closed (leads links) (length links) (t ∷ []) x y (below (length links) y (inside x y link))
-    (any_of (λ z. leads links z y) (numbers_reached (leads links) (length links) (length links) (t ∷ [])) x e link)
+    numbers_reached-closed (leads links) (length links) (t ∷ []) x y (contains-below (length links) y (inside x y link))
+    (contains-any (λ z. leads links z y) (numbers_reached (leads links) (length links) (length links) (t ∷ [])) x e link)
 
 marked_more : (ms : List Bool) (x y : ℕ) → x < length ms → is_marked ms y ≡ true → is_marked (set ms x true) y ≡ true
 marked_more ms x y lt e = go (eqb y x) refl
@@ -124,7 +99,7 @@ search_skip links t s marks rest x h marked = record {
 }
   where
     keep : (b : ℕ) → (is_marked marks b || contains (rest ++ x ∷ []) b) ≡ true → (is_marked marks b || contains rest b) ≡ true
-    keep b e = elim (or_true (is_marked marks b) (contains (rest ++ x ∷ []) b) e) [
+    keep b e = elim (or_cases (is_marked marks b) (contains (rest ++ x ∷ []) b) e) [
       | inl m ↦ or_left (is_marked marks b) (contains rest b) m
       | inr held ↦ elim (in_both rest (x ∷ []) b held) [
         | inl r ↦ or_right (is_marked marks b) (contains rest b) r
@@ -151,7 +126,7 @@ search_mark links t s marks rest x stays h lt apart = record {
 }
   where
     keep : (b : ℕ) → (is_marked marks b || contains (rest ++ x ∷ []) b) ≡ true → (is_marked (set marks x true) b || contains (rest ++ get_or links x []) b) ≡ true
-    keep b e = elim (or_true (is_marked marks b) (contains (rest ++ x ∷ []) b) e) [
+    keep b e = elim (or_cases (is_marked marks b) (contains (rest ++ x ∷ []) b) e) [
       | inl m ↦ or_left (is_marked (set marks x true) b) (contains (rest ++ get_or links x []) b) (marked_more marks x b lt m)
       | inr held ↦ elim (in_both rest (x ∷ []) b held) [
         | inl r ↦ or_right (is_marked (set marks x true) b) (contains (rest ++ get_or links x []) b) (in_left rest (get_or links x []) b r)

@@ -7,6 +7,7 @@ use Rattle.std.proofs.lemmas.Bool.{eqb-true}
 use Rattle.std.proofs.lemmas.List.{get_or-set_same, get_or-set_other, take_more, length-set, length-take}
 use Rattle.bl_format.specs.declared.catalogue.StructEntry.{StructEntry}
 use Rattle.bl_layout.specs.BasicTypes.{IsStructTable, struct_among}
+use Rattle.bl_layout.proofs.OffsetLemmas.{or_none}
 
 -- the place of the first element that passes, with one element more at the end
 pub position_from-push : {X : Type 0} (p : X → Bool) (i : ℕ) (xs : List X) (x : X)
@@ -21,10 +22,6 @@ position_from-push p i (y ∷ ys) x = go (p y) (position_from-push p (i + 1) ys 
         → cond b (Some i) (position_from p (i + 1) (ys ++ x ∷ [])) ≡ option_or (cond b (Some i) (position_from p (i + 1) ys)) (if p x then Some (i + suc (length ys)) else None)
     go true e = refl
     go false e = let n : i + suc (length ys) ≡ i + 1 + length ys = omega arith in rw n e
-
-or_none : {X : Type 0} (o : Option X) → option_or o None ≡ o
-or_none None = refl
-or_none (Some x) = refl
 
 -- the table with one struct more
 pub struct_push : (types i : ℕ) (structs : List StructEntry) (table : List (Option ℕ)) (s : StructEntry)

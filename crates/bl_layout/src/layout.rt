@@ -157,7 +157,7 @@ impl Layout {
     }
 }
 
-// The layout_tables of a layout that passes all checks, and the leaves of each struct.
+// The tables of a layout that passes all checks, and the leaves of each struct.
 fn tables_and_leaves(
     alloc: Global,
     catalogue: &Catalogue,
@@ -175,7 +175,7 @@ fn tables_and_leaves(
     Ok((layout_tables, leaves))
 }
 
-// The layout_tables of a layout that passes all checks.
+// The tables of a layout that passes all checks.
 fn checked_layout_tables(
     alloc: Global,
     catalogue: &Catalogue,

@@ -1,10 +1,10 @@
 use Rattle.std.proofs.Common.{◌≡◌, ◌<◌, ◌+◌, List, ℕ, None, [], ◌∷◌, ◌++◌, length, map, ap, subst, sym, ◌∙◌, inl, inr, refl, arith}
 use Rattle.std.proofs.lemmas.Result.{err_from_is_err_and}
+use Rattle.std.proofs.lemmas.List.{map_push}
 use Rattle.bl_format.specs.Words.{find_map, numbers_below}
 use Rattle.bl_format.specs.Layout.{first_fault}
 use Rattle.bl_layout.specs.Check.{struct_fault, offsets_in}
 use Rattle.bl_layout.specs.Graph.{links_of}
-use Rattle.bl_layout.proofs.DuplicateLemmas.{map-push}
 use Rattle.bl_layout.proofs.OffsetLemmas.{find_map-pass, find_map-first, numbers-push}
 use Rattle.bl_layout.proofs.offsets.all_offsets.Goals as goal
 
@@ -27,7 +27,7 @@ loop-s-preserved c =
     let s = c.loop-s.s in
     record {
       none = find_map-pass (struct_fault cat w) s (s + 1) c.loop-s.invariant.none c.in_ok-struct_offsets.ensures.passes refl;
-      offsets = ap links_of c.in_ok-push.ensures.items ∙ map-push (λ v. v.items) c.loop-s.offsets.items c.in_ok-struct_offsets.field-0
+      offsets = ap links_of c.in_ok-push.ensures.items ∙ map_push (λ v. v.items) c.loop-s.offsets.items c.in_ok-struct_offsets.field-0
           ∙ ap (λ (xs : List (List ℕ)). xs ++ c.in_ok-struct_offsets.field-0.items ∷ []) c.loop-s.invariant.offsets
           ∙ ap (λ (x : List ℕ). map (offsets_in cat w) (numbers_below s) ++ x ∷ []) c.in_ok-struct_offsets.ensures.offsets
           ∙ sym (numbers-push (offsets_in cat w) s (s + 1) refl);

@@ -1,6 +1,7 @@
 use Rattle.std.proofs.Common.{length, ap, ◌∙◌, arith}
 use Rattle.bl_layout.specs.Sizes.{basic_in}
-use Rattle.bl_layout.proofs.PointeeLemmas.{basic_in-content_of, nothing_past}
+use Rattle.bl_layout.proofs.PointeeLemmas.{nothing_past}
+use Rattle.bl_layout.proofs.CheckLemmas.{basic_in-content_of}
 use Rattle.bl_layout.proofs.pointees.basic_of.Goals as goal
 
 pub returns-then-type_number-as_slice : goal.returns-then-type_number-as_slice

@@ -1,8 +1,9 @@
 use Rattle.std.proofs.Common.{◌≡◌, ◌<◌, subst, List, [], length, get_or, ap, sym, ◌∙◌, arith}
 use Rattle.bl_format.specs.declared.layout.Leaf.{Leaf}
 use Rattle.bl_format.specs.Layout.{HasLayout, leaves_of}
+use Rattle.bl_format.proofs.NumbersBelow.{get_or-by}
 use Rattle.bl_layout.specs.LaidOut.{LaidOut}
-use Rattle.bl_layout.proofs.LevelLemmas.{at_below, length-by, length-lists_of, lists-at}
+use Rattle.bl_layout.proofs.LevelLemmas.{length-by, length-lists_of, lists-at}
 use Rattle.bl_layout.proofs.LeafFactLemmas.{list-apart, list-sized, list-end}
 use Rattle.bl_layout.proofs.layout.Layout.leaves.Goals as goal
 
@@ -26,7 +27,7 @@ returns c =
     c.as_slice.ensures.value
     ∙ lists-at l.leaves.items s c.index.result.now (omega (arith, many, lt)) c.index.ensures
     ∙ ap (λ (xs : List (List Leaf)). get_or xs s []) c.self.invariant.leaves
-    ∙ at_below (leaves_of l.catalogue l.width) n s [] lt
+    ∙ get_or-by (leaves_of l.catalogue l.width) n s [] lt
     ∙ ap (λ (x : LaidOut). leaves_of x.catalogue x.width s) c.self.view_is in
     let has : HasLayout at.catalogue at.width =
     subst (λ (x : LaidOut). HasLayout x.catalogue x.width) c.self.view_is c.self.invariant.has_layout in
