@@ -1,6 +1,5 @@
 -- What stands at the end of the rows up to a place.
-use Rattle.std.proofs.Common.{◌≡◌, ◌<◌, ◌≤◌, inl, inr, ℕ, ◌-◌, ◌∙◌, sym, refl, subst, Bool, true, false, List, length, get_or, take, Some, None, arith}
-use Rattle.std.specs.Prelude.{◌&&◌}
+use Rattle.std.proofs.Common.{◌≡◌, ◌<◌, ◌≤◌, inl, inr, ℕ, ◌-◌, ◌∙◌, sym, subst, true, false, List, length, get_or, take, Some, None, arith}
 use Rattle.std.specs.List.Sorted.{IsPartitionPoint}
 use Rattle.std.proofs.lemmas.Bool.{cases_lt, and_parts, false_from_ne_true}
 use Rattle.std.proofs.lemmas.List.{get_or_default, length-take-le, get_or-take}
