@@ -63,7 +63,7 @@ fields_fill value (e ∷ es) all =
 
 module _ (names : Naming Target) (order : Order) (c : Catalogue) (w : Width) (s : ℕ) (no_fault : first_fault c w ≡ None) where
   -- what is read of an element of a struct is written in as many bytes
-  element_long : (bytes : List ℕ) → length bytes ≡ struct_length c s
+  pub element_long : (bytes : List ℕ) → length bytes ≡ struct_length c s
       → length (element_written order (struct_length c s) (named_leaves c w s) (fields (struct_cells names order c w s bytes))) ≡ struct_length c s
   unfolding leaf_value
   element_long bytes long =
