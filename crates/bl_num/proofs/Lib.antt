@@ -1,2 +1,4 @@
 pub mod BytesOf
 pub mod BytesBack
+pub mod SignedBits
+pub mod Casts

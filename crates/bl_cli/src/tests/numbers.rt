@@ -1,6 +1,6 @@
 // Numbers in bytes, and lists of public types.
 use bl_num::Order::{Big, Little};
-use bl_num::{Items, Order, Text, read_whole, write_whole};
+use bl_num::{Items, Order, Text, Whole, cast, read_whole, value_of, write_whole};
 use std::test::Fail;
 
 const NUMBER: u64 = 0x8102_0304_8506_0708;
@@ -65,4 +65,32 @@ fn keeps_elements(rt: HostRuntime) -> Result<(), Fail> {
     assert_eq!(rt; text.as_slice(), b"\xff".as_slice());
     assert_eq!(rt; text.into_vec().as_slice(), b"\xff".as_slice());
     Ok(())
+}
+
+const SHORT: Whole = Whole {
+    bytes: 2,
+    signed: true,
+};
+
+const INT: Whole = Whole {
+    bytes: 4,
+    signed: true,
+};
+
+const UCHAR: Whole = Whole {
+    bytes: 1,
+    signed: false,
+};
+
+#[test]
+fn carries_whole_numbers(rt: HostRuntime) {
+    for (value, from, to, carried, old, new) in [
+        (0xffff, SHORT, INT, 0xffff_ffff, -1, -1),
+        (70000, INT, SHORT, 4464, 70000, 4464),
+        (200, UCHAR, INT, 200, 200, 200),
+    ] {
+        assert_eq!(rt; cast(value, from, to), carried);
+        assert_eq!(rt; value_of(value, from), old);
+        assert_eq!(rt; value_of(carried, to), new);
+    }
 }
