@@ -20,3 +20,4 @@ pub mod BuildLemmas
 pub mod LevelLemmas
 pub mod LeafFactLemmas
 pub mod PointeeLemmas
+pub mod KeyLemmas

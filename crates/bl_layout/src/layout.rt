@@ -1,15 +1,17 @@
 ghost use Rattle.std.specs.Prelude.{◌≡◌, ◌<◌, ◌⊎◌, None, Some, All, IfOk, IfErr, OnOk, length};
 ghost use Rattle.bl_format.specs.Schema.{CanBeRead, IsCatalogue};
+ghost use Rattle.bl_layout.specs.BasicTypes.{content_meant};
 ghost use Rattle.bl_layout.specs.ShapeTables.{IsLayoutTables};
 ghost use Rattle.bl_layout.specs.LaidOut.{IsLaidOut};
 ghost use Rattle.bl_layout.specs.LeafFacts.{AreApart, IsSized, EndsAtZero};
 ghost use Rattle.bl_format.specs.Nodes.{pointed_length};
-ghost use Rattle.bl_format.specs.Layout.{HasLayout, basic_named, first_fault, type_entry, depth_fault, layout_fault, leaves_of, struct_length, shape_of, member_count};
+ghost use Rattle.bl_format.specs.Layout.{HasLayout, basic_named, content_of, first_fault, type_entry, depth_fault, layout_fault, leaves_of, struct_length, shape_of, member_count, member_entry, name_of};
 
+use crate::basic_types::Content;
 use crate::copy::copy_of;
 use crate::leaf_counts::{leaf_counts, leaves_fault};
 use crate::leaf_levels::leaf_table;
-use crate::member_parts::member_count;
+use crate::member_parts::{member_content, member_count, member_key};
 use crate::pointees::pointee_length;
 use crate::shape_tables::{LayoutTables, ShapeTables, layout_tables_of};
 use crate::shapes::{member_shape, struct_count, struct_length};
@@ -154,6 +156,25 @@ impl Layout {
         ensures has_layout { HasLayout self.now.catalogue self.now.width }
     {
         member_shape(&self.catalogue, self.width, &self.shape_tables, s, member)
+    }
+
+    /// The key of a member, by which it meets one of another catalogue: its name without brackets.
+    pub fn member_key(&self, s: u32, member: u32) -> &[u8]
+        requires s { s < length self.now.catalogue.structs }
+        requires member { member < member_count self.now.catalogue s }
+        ensures { result.now ≡ (name_of self.now.catalogue s member).key }
+    {
+        member_key(&self.catalogue, &self.shape_tables.tables, s, member)
+    }
+
+    /// What the type of a member holds.
+    pub fn member_content(&self, s: u32, member: u32) -> Content
+        requires s { s < length self.now.catalogue.structs }
+        requires member { member < member_count self.now.catalogue s }
+        ensures { content_meant result
+            ≡ content_of self.now.catalogue (member_entry self.now.catalogue s member).type_number }
+    {
+        member_content(&self.catalogue, &self.shape_tables.tables, s, member)
     }
 }
 

@@ -27,6 +27,7 @@ mod struct_search;
 mod tables;
 mod types;
 
+pub use basic_types::{Basic, Content};
 pub use bl_format::{Kind, LayoutFault, Leaf, PathStep, Shape};
 pub use copy::copy_of;
 pub use layout::{Layout, RefusedCatalogue};

@@ -81,6 +81,14 @@ pub fn identifier_in(name: &[u8], shape: NameShape) -> &[u8]
     &name[shape.identifier_at..shape.identifier_at + shape.identifier_len]
 }
 
+/// The key in a name, by what the name says.
+pub fn key_in(name: &[u8], shape: NameShape) -> &[u8]
+    requires { shape ≡ shape_of_name (name_parts name.now) }
+    ensures { result.now ≡ (name_parts name.now).key }
+{
+    &name[..shape.key_len]
+}
+
 /// The parts of a name of one of the two forms that a member's name may have.
 #[tactic(auto, unfolding(bl_format::specs::Members::member_name))]
 pub fn name_shape(name: &[u8]) -> Option<NameShape>

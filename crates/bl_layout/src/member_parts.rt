@@ -1,13 +1,15 @@
 ghost use Rattle.std.specs.Prelude.{◌≡◌, ◌==◌, ◌<◌, ◌+◌, ◌*◌, ◌^◌, ◌&&◌, All, false, not, None, length};
 ghost use Rattle.bl_format.specs.Schema.{IsCatalogue, MemberFits};
-ghost use Rattle.bl_format.specs.Layout.{content_of, first_fault, is_bad_length, kind_of, member_count, member_entry, type_entry};
+ghost use Rattle.bl_format.specs.Layout.{content_of, first_fault, is_bad_length, kind_of, member_count, member_entry, name_of, type_entry};
 ghost use Rattle.bl_layout.specs.ShapeTables.{IsShapeTables};
+ghost use Rattle.bl_layout.specs.BasicTypes.{content_meant};
 ghost use Rattle.bl_layout.specs.Leaves.{kind_at, part_at, part_of};
 ghost use Rattle.bl_layout.specs.Sizes.{basic_in, parts_of};
 ghost use Rattle.bl_layout.specs.Tables.{AreTables};
 
-use crate::basic_types;
+use crate::basic_types::{self, Content};
 use crate::leaves::Part;
+use crate::member_names::key_in;
 use crate::members::{content_of, element_size, name_of};
 use crate::shape_tables::ShapeTables;
 use crate::tables::Tables;
@@ -34,6 +36,31 @@ pub fn member_count(catalogue: &Catalogue, s: u32) -> u32
 {
     let members = catalogue.structs.as_slice()[s as usize].members.as_slice();
     members.len() as u32
+}
+
+/// The key of member `k` of struct `s`.
+pub fn member_key<'a>(catalogue: &'a Catalogue, tables: &Tables, s: u32, k: u32) -> &'a [u8]
+    requires catalogue { IsCatalogue catalogue.now }
+    requires tables { AreTables catalogue.now tables.now }
+    requires place { s < length catalogue.now.structs }
+    requires member { k < member_count catalogue.now s }
+    ensures { result.now ≡ (name_of catalogue.now s k).key }
+{
+    let entry = entry_of(catalogue, s, k);
+    let name = &catalogue.names.as_slice()[entry.name_number as usize];
+    key_in(name.as_slice(), name_of(catalogue, tables, entry).shape)
+}
+
+/// What the type of member `k` of struct `s` holds.
+pub fn member_content(catalogue: &Catalogue, tables: &Tables, s: u32, k: u32) -> Content
+    requires catalogue { IsCatalogue catalogue.now }
+    requires tables { AreTables catalogue.now tables.now }
+    requires place { s < length catalogue.now.structs }
+    requires member { k < member_count catalogue.now s }
+    ensures { content_meant result ≡ content_of catalogue.now (member_entry catalogue.now s k).type_number }
+{
+    let entry = entry_of(catalogue, s, k);
+    content_of(catalogue, tables, entry.type_number)
 }
 
 /// What the leaves of member `k` of struct `s` are made from, where its entry is known.

@@ -12,6 +12,6 @@ mod write;
 
 pub use bl_format::{Catalogue, MemberEntry, SdnaFault, StructEntry, TypeEntry};
 pub use lookup::{struct_named, type_named};
-pub use names::{member_name, member_type_name, struct_name};
+pub use names::{member_name, member_type_length, member_type_name, struct_name};
 pub use parse::parse_catalogue;
 pub use write::write_catalogue;

@@ -1,4 +1,4 @@
-// Names in a catalogue by numbers. What isn't there has no name.
+// Names and lengths in a catalogue by numbers. What isn't there has no name and no bytes.
 ghost use Rattle.std.specs.Prelude.{◌≡◌, length, option_copied, unwrap_or};
 ghost use Rattle.bl_format.specs.Layout.{struct_name, member_entry, name_entry, type_entry};
 
@@ -35,6 +35,19 @@ pub fn member_type_name(catalogue: &Catalogue, s: u32, member: u32) -> &[u8]
         return &[];
     };
     type_name(catalogue, entry.type_number)
+}
+
+/// The length of a member's type, and 0 where there is none of the numbers.
+pub fn member_type_length(catalogue: &Catalogue, s: u32, member: u32) -> u16
+    ensures { result ≡ (type_entry catalogue.now (member_entry catalogue.now s member).type_number).length }
+{
+    let Some(entry) = member_entry(catalogue, s, member) else {
+        return 0;
+    };
+    match catalogue.types.as_slice().get(entry.type_number as usize) {
+        Some(named) => named.length,
+        None => 0,
+    }
 }
 
 // A member, where there is one of the numbers.
