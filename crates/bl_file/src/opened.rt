@@ -1,7 +1,7 @@
 // Opens a file: reads its header, its blocks, its catalogue and its nodes.
-ghost use Rattle.std.specs.Prelude.{◌≡◌, ◌≤◌, ◌<◌, ◌+◌, ◌*◌, ◌^◌, All, None, IfOk, IfErr, OnOk, IfSome, length};
-ghost use Rattle.bl_format.specs.Limits.{most_blocks, most_input_bytes, first_version, last_version};
-ghost use Rattle.bl_format.specs.Blocks.{header_size};
+ghost use Rattle.std.specs.Prelude.{◌≡◌, ◌≤◌, ◌+◌, None, Ok, IfOk, IfErr, OnOk, IfSome};
+ghost use Rattle.bl_format.specs.Limits.{most_input_bytes, first_version, last_version};
+ghost use Rattle.bl_format.specs.Blocks.{header_of, header_size};
 ghost use Rattle.bl_format.specs.Nodes.{nodes_in};
 ghost use Rattle.bl_shelf.specs.Calls.{Keeps};
 ghost use Rattle.bl_shelf.specs.Told.{bytes_under};
@@ -9,8 +9,7 @@ ghost use Rattle.bl_file.specs.Calls.{Stays, Tells, IsOpen, FailsFor, Blames};
 ghost use Rattle.bl_file.specs.Held.{IsHeldAnd};
 ghost use Rattle.bl_file.specs.Opening.{format_fault, open_fault};
 ghost use Rattle.bl_file.specs.Outlines.{IsSound, StandsFor, IsFirst};
-ghost use Rattle.bl_file.specs.Reading.{IsBlockIn};
-ghost use Rattle.bl_file.specs.Steps.{NoFaultIn, IsFormatFault, AreBlocksOf, IsFileOf, IsSoundFrame};
+ghost use Rattle.bl_file.specs.Steps.{NoFaultIn, IsFormatFault, IsFileOf, IsSoundFrame};
 
 use crate::fault::{OpenFault, shelf_fault};
 use crate::kinds::kinds_of;
@@ -27,38 +26,6 @@ use std::alloc::Global;
 
 // The most bytes of all files of a run.
 const MAX_INPUT_BYTES: u64 = 1 << 30;
-
-// The header and the blocks of a file.
-fn read_front<S: Shelf, P: Payload>(
-    alloc: Global,
-    payload: &mut P,
-    shelf: &mut S,
-    size: u64,
-) -> Result<(Header, Vec<Head>), OpenFault>
-    requires small { size ≤ most_input_bytes }
-    requires size { P.file_size payload.old ≡ size }
-    requires held { IsOpen S.Shelf P.Payload shelf.old payload.old }
-    ensures version { IfOk result (λ read.
-        (first_version ≤ read.0.version) × (read.0.version ≤ last_version)) }
-    ensures sound { IfOk result (λ read. All (IsBlockIn read.0 size) read.1.items) }
-    ensures few { IfOk result (λ read. length read.1.items ≤ most_blocks) }
-    ensures spaced { IfOk result (λ read. header_size read.0 + 20 * length read.1.items ≤ size) }
-    ensures read { IfOk result (λ read. Tells S.Shelf P.Payload shelf.old payload.old
-        (AreBlocksOf read.0 read.1.items)) }
-    ensures fault { IfErr result
-        (FailsFor S.Shelf P.Payload shelf.old payload.old IsFormatFault) }
-    ensures stays { Stays S.Shelf P.Payload shelf.old shelf.new payload.old payload.new }
-    ensures cause { Blames S.Shelf shelf.old shelf.new result }
-{
-    let header = match read_header(payload, shelf, size) {
-        Ok(header) => header,
-        Err(fault) => return Err(fault),
-    };
-    match read_blocks(alloc, payload, shelf, &header, size) {
-        Ok(blocks) => Ok((header, blocks)),
-        Err(fault) => Err(fault),
-    }
-}
 
 // Leaves the blocks that hold no catalogue.
 fn keep_nodes(blocks: &mut Vec<Head>)
@@ -109,16 +76,21 @@ fn outline_of<S: Shelf, P: Payload>(
     }
 }
 
-// What is read of a file beside its payloads.
-fn read_outline<S: Shelf, P: Payload>(
+// The outline of a file whose header is read.
+fn read_outline_behind<S: Shelf, P: Payload>(
     alloc: Global,
     payload: &mut P,
     shelf: &mut S,
+    header: Header,
     size: u64,
 ) -> Result<Outline, OpenFault>
+    requires version { (first_version ≤ header.version) × (header.version ≤ last_version) }
+    requires whole { header_size header ≤ size }
     requires small { size ≤ most_input_bytes }
     requires size { P.file_size payload.old ≡ size }
     requires held { IsOpen S.Shelf P.Payload shelf.old payload.old }
+    requires read { Tells S.Shelf P.Payload shelf.old payload.old
+        (λ bytes. header_of bytes ≡ Ok header) }
     ensures sound { IfOk result IsSound }
     ensures whole { IfOk result (λ outline. outline.size ≡ size) }
     ensures stands { IfOk result (λ outline. Tells S.Shelf P.Payload shelf.old payload.old
@@ -130,8 +102,8 @@ fn read_outline<S: Shelf, P: Payload>(
     ensures stays { Stays S.Shelf P.Payload shelf.old shelf.new payload.old payload.new }
     ensures cause { Blames S.Shelf shelf.old shelf.new result }
 {
-    let (header, mut blocks) = match read_front(alloc, payload, shelf, size) {
-        Ok(read) => read,
+    let mut blocks = match read_blocks(alloc, payload, shelf, &header, size) {
+        Ok(blocks) => blocks,
         Err(fault) => return Err(fault),
     };
     let layout = match read_layout(alloc, payload, shelf, &header, &blocks) {
@@ -182,7 +154,11 @@ pub fn open<S: Shelf, P: Payload>(
         Ok(payload) => payload,
         Err(fault) => return Err(shelf_fault(fault)),
     };
-    match read_outline(alloc, &mut payload, shelf, size) {
+    let header = match read_header(&mut payload, shelf, size) {
+        Ok(header) => header,
+        Err(fault) => return Err(fault),
+    };
+    match read_outline_behind(alloc, &mut payload, shelf, header, size) {
         Ok(outline) => Ok(Opened { outline, payload }),
         Err(fault) => Err(fault),
     }
