@@ -1,13 +1,18 @@
 -- Calls that read, one after another.
-use Rattle.std.proofs.Common.{◌≡◌, ℕ, List, Option, subst, sym, ◌∙◌, arith}
+use Rattle.std.proofs.Common.{◌≡◌, ℕ, List, length, Option, subst, sym, ◌∙◌, arith}
 use Rattle.std.specs.Prelude.{Result, Ok, Err, IfErr}
 use Rattle.bl_shelf.specs.Calls.{Keeps, IsQuiet}
 use Rattle.bl_shelf.specs.Told.{Told}
+use Rattle.bl_shelf.specs.Contents.{AreBytesAt}
 use Rattle.bl_shelf.specs.declared.shelf.Shelf.{Ghosts}
 use Rattle.bl_shelf.specs.declared.shelf.ShelfFault.{ShelfFault}
 use Rattle.bl_shelf.specs.declared.shelf.ShelfFault.TheVariants.{NoMemory}
+use Rattle.bl_file.specs.declared.payload.Payload.{Ghosts as PayloadGhosts}
+use Rattle.bl_file.specs.Calls.{Tells, IsOpen}
 use Rattle.bl_file.specs.Frames.{StaysAs, IsBlamed, CountsReads}
 use Rattle.bl_file.specs.Held.{IsHeldAnd}
+use Rattle.bl_file.specs.Reading.{IsPartAt}
+use Rattle.bl_file.proofs.HeldLemmas.{AreBytesAt-IsPartAt}
 
 module _ {S : Type 0} (g : Ghosts S) (s s' s'' : S) where
   -- what a shelf keeps at two calls it keeps at both
@@ -45,3 +50,9 @@ told_before {g} {name_of} {s' = s'} {p = p} Such stays told =
 pub counts_of_memory : {S T : Type 0} (g : Ghosts S) (s s' : S) (result : Result T ShelfFault) → IsQuiet g s s' → IfErr result (λ fault. fault ≡ NoMemory) → CountsReads g s s' result
 counts_of_memory g s s' (Ok x) quiet memory = quiet
 counts_of_memory g s s' (Err fault) quiet memory = subst (IsBlamed g s s') (sym memory) tt
+
+-- what is copied of an open payload is a part of its file
+pub copied_part : {S P : Type 0} (g : Ghosts S) (h : PayloadGhosts P) (s : S) (p : P) → ((p : P) (b : List ℕ) → h.agrees p b → length b ≡ h.file_size p) → IsOpen g h s p
+    → (size at : ℕ) (part : List ℕ) → h.file_size p ≡ size → AreBytesAt (g.told s) (h.file_name p) at part → Tells g h s p (IsPartAt size at part)
+copied_part g h s p agreed held size at part long copied =
+    AreBytesAt-IsPartAt (g.told s) (h.file_name p) (h.agrees p) size at part copied held (λ b agrees. agreed p b agrees ∙ long)

@@ -6,7 +6,7 @@ use Rattle.bl_shelf.specs.Contents.{IsSizeOf, AreBytesAt}
 use Rattle.bl_file.specs.declared.fault.OpenFault.{OpenFault}
 use Rattle.bl_file.specs.declared.fault.OpenFault.TheVariants.{NoMemory, Absent, Device, TooLarge, Head, Block, NoCatalogue, TwoCatalogues, Sdna, Layout, BadStruct, ShortBlock}
 use Rattle.bl_file.specs.Held.{IfHeld, ForHeld, IsHeldAnd}
-use Rattle.bl_file.specs.Reading.{IsCopyFault, IsFaultOf, IsOfHeader, IsOfBlocks, IsPartAt}
+use Rattle.bl_file.specs.Reading.{IsFaultOf, IsPartAt}
 
 value_meets : (o : Option (List ℕ)) (Such : List ℕ → Type 0) → IsSomeAnd o Such → (x : List ℕ) → o ≡ Some x → Such x
 value_meets (Some y) Such such x is =
@@ -69,21 +69,6 @@ pub AreBytesAt-IsPartAt : (told : Option Told) (name : List ℕ) (Such : List �
 AreBytesAt-IsPartAt None name Such size at part are held len = tt
 AreBytesAt-IsPartAt (Some s) name Such size at part are held len = value_part (bytes_under name s) Such size at part are held len
 
--- a part that isn't copied leaves any file unread
-pub IsCopyFault-IsFaultOf : (told : Option Told) (name : List ℕ) (Why : OpenFault → List ℕ → Type 0) (fault : OpenFault) → IsCopyFault told fault → IsFaultOf told name Why fault
-IsCopyFault-IsFaultOf told name Why Device is = tt
-IsCopyFault-IsFaultOf told name Why Absent is = is
-IsCopyFault-IsFaultOf told name Why NoMemory is = absurd is
-IsCopyFault-IsFaultOf told name Why (TooLarge sum) is = absurd is
-IsCopyFault-IsFaultOf told name Why (Head fault) is = absurd is
-IsCopyFault-IsFaultOf told name Why (Block fault) is = absurd is
-IsCopyFault-IsFaultOf told name Why NoCatalogue is = absurd is
-IsCopyFault-IsFaultOf told name Why (TwoCatalogues at) is = absurd is
-IsCopyFault-IsFaultOf told name Why (Sdna fault) is = absurd is
-IsCopyFault-IsFaultOf told name Why (Layout fault owner member) is = absurd is
-IsCopyFault-IsFaultOf told name Why (BadStruct at) is = absurd is
-IsCopyFault-IsFaultOf told name Why (ShortBlock at) is = absurd is
-
 -- a fault of what is held is one for each reason that follows
 pub IsFaultOf-both : (told : Option Told) (name : List ℕ) (Such : List ℕ → Type 0) (Why Also : OpenFault → List ℕ → Type 0) (fault : OpenFault)
     → IsHeldAnd told name Such → IsFaultOf told name Why fault → ((b : List ℕ) → Such b → Why fault b → Also fault b) → IsFaultOf told name Also fault
@@ -99,33 +84,3 @@ IsFaultOf-both told name Such Why Also (Sdna fault) held is so = IsHeldAnd-both 
 IsFaultOf-both told name Such Why Also (Layout fault owner member) held is so = IsHeldAnd-both told name Such (Why (Layout fault owner member)) (Also (Layout fault owner member)) held is so
 IsFaultOf-both told name Such Why Also (BadStruct at) held is so = IsHeldAnd-both told name Such (Why (BadStruct at)) (Also (BadStruct at)) held is so
 IsFaultOf-both told name Such Why Also (ShortBlock at) held is so = IsHeldAnd-both told name Such (Why (ShortBlock at)) (Also (ShortBlock at)) held is so
-
--- a part that isn't copied is no fault of another kind
-pub IsCopyFault-IsOfHeader : (told : Option Told) (fault : OpenFault) → IsCopyFault told fault → IsOfHeader fault
-IsCopyFault-IsOfHeader told Device is = tt
-IsCopyFault-IsOfHeader told Absent is = tt
-IsCopyFault-IsOfHeader told (Head fault) is = tt
-IsCopyFault-IsOfHeader told NoMemory is = absurd is
-IsCopyFault-IsOfHeader told (Block fault) is = absurd is
-IsCopyFault-IsOfHeader told (TooLarge sum) is = absurd is
-IsCopyFault-IsOfHeader told NoCatalogue is = absurd is
-IsCopyFault-IsOfHeader told (TwoCatalogues at) is = absurd is
-IsCopyFault-IsOfHeader told (Sdna fault) is = absurd is
-IsCopyFault-IsOfHeader told (Layout fault owner member) is = absurd is
-IsCopyFault-IsOfHeader told (BadStruct at) is = absurd is
-IsCopyFault-IsOfHeader told (ShortBlock at) is = absurd is
-
--- the same for blocks
-pub IsCopyFault-IsOfBlocks : (told : Option Told) (fault : OpenFault) → IsCopyFault told fault → IsOfBlocks fault
-IsCopyFault-IsOfBlocks told Device is = tt
-IsCopyFault-IsOfBlocks told Absent is = tt
-IsCopyFault-IsOfBlocks told NoMemory is = tt
-IsCopyFault-IsOfBlocks told (Block fault) is = tt
-IsCopyFault-IsOfBlocks told (Head fault) is = absurd is
-IsCopyFault-IsOfBlocks told (TooLarge sum) is = absurd is
-IsCopyFault-IsOfBlocks told NoCatalogue is = absurd is
-IsCopyFault-IsOfBlocks told (TwoCatalogues at) is = absurd is
-IsCopyFault-IsOfBlocks told (Sdna fault) is = absurd is
-IsCopyFault-IsOfBlocks told (Layout fault owner member) is = absurd is
-IsCopyFault-IsOfBlocks told (BadStruct at) is = absurd is
-IsCopyFault-IsOfBlocks told (ShortBlock at) is = absurd is

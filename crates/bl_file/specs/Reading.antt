@@ -27,12 +27,6 @@ abbrev pub with_fault : {X Fault : Type 0} → (Fault → OpenFault) → Result 
 with_fault of_file (Ok x) = Ok x
 with_fault of_file (Err fault) = Err (of_file fault)
 
--- a part isn't copied of a payload: its device failed, or its file is gone, which a shelf that tells excludes
-abbrev pub IsCopyFault : Option Told → OpenFault → Type 0
-IsCopyFault told Device = ⊤
-IsCopyFault told Absent = told ≡ None
-IsCopyFault told _ = ⊥
-
 -- why a file isn't read through a payload: nothing is said of memory and devices, a shelf that tells excludes that the
 -- file is gone, and any other fault is such of the bytes that are held
 abbrev pub IsFaultOf : Option Told → List ℕ → (OpenFault → List ℕ → Type 0) → OpenFault → Type 0

@@ -10,10 +10,9 @@ ghost use Rattle.bl_file.specs.Opening.{catalogue_fault, named_fault};
 ghost use Rattle.bl_file.specs.Reading.{IsBlockIn};
 ghost use Rattle.bl_file.specs.Steps.{IsGiven, NoFaultIn, IsFormatFault, AreBlocksOf, IsCatalogueOf};
 
-use crate::fault::OpenFault;
+use crate::fault::{OpenFault, shelf_fault};
 use crate::fault_names::layout_fault;
 use crate::payload::Payload;
-use crate::reading::read_part;
 use bl_blocks::head_size;
 use bl_format::{Catalogue, Head, Header, SdnaFault};
 use bl_layout::Layout;
@@ -83,9 +82,9 @@ fn read_payload<S: Shelf, P: Payload>(
 {
     let at = head.at + head_size(header) as u64;
     let mut bytes = vec![in alloc; 0; head.len as usize]?;
-    match read_part(payload, shelf, at, &mut bytes) {
+    match payload.copy_out(shelf, at, &mut bytes) {
         Ok(()) => Ok(bytes),
-        Err(fault) => Err(fault),
+        Err(fault) => Err(shelf_fault(fault)),
     }
 }
 

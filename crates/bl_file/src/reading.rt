@@ -1,9 +1,9 @@
 // Reads a file's header and its blocks through a payload.
-ghost use Rattle.std.specs.Prelude.{◌≡◌, ◌+◌, ◌-◌, ◌*◌, ◌^◌, ◌<◌, ◌≤◌, All, min, length, Ok, IfOk, OnOk, IfErr};
+ghost use Rattle.std.specs.Prelude.{◌≡◌, ◌+◌, ◌-◌, ◌*◌, ◌^◌, ◌<◌, ◌≤◌, All, min, length, Ok, IfOk, IfErr};
 ghost use Rattle.bl_format.specs.Limits.{first_version, last_version, most_blocks};
 ghost use Rattle.bl_format.specs.Blocks.{header_of, header_size, head_size, step_in, step_at, blocks_of};
 ghost use Rattle.bl_file.specs.Calls.{Stays, Tells, IsOpen, FailsFor, Blames};
-ghost use Rattle.bl_file.specs.Reading.{IsCopyFault, IsPartAt, with_fault, IsHeaderFault, IsStepFault, IsBlocksFault, IsOfHeader, IsOfBlocks, IsBlockIn, IsStepIn};
+ghost use Rattle.bl_file.specs.Reading.{with_fault, IsHeaderFault, IsStepFault, IsBlocksFault, IsOfHeader, IsOfBlocks, IsBlockIn, IsStepIn};
 
 use crate::fault::shelf_fault;
 use crate::{OpenFault, Payload};
@@ -34,8 +34,10 @@ pub fn read_header<S: Shelf, P: Payload>(
 {
     let mut window = [0u8; HEADER_SIZE];
     let part = &mut window[..size.min(HEADER_SIZE as u64) as usize];
-    read_part(payload, shelf, 0, part)?;
-    header_in(part)
+    match payload.copy_out(shelf, 0, part) {
+        Ok(()) => header_in(part),
+        Err(fault) => Err(shelf_fault(fault)),
+    }
 }
 
 /// All blocks of a file, in their order and without the end.
@@ -98,27 +100,8 @@ fn read_step<S: Shelf, P: Payload>(
 {
     let mut window = [0u8; LONGEST_HEAD];
     let part = &mut window[..(size - at).min(head_size(header) as u64) as usize];
-    read_part(payload, shelf, at, part)?;
-    step_in(header, part, at, size)
-}
-
-/// Fills all of `dst` with the bytes from the place `at` on.
-pub fn read_part<S: Shelf, P: Payload>(
-    payload: &mut P,
-    shelf: &mut S,
-    at: u64,
-    dst: &mut [u8],
-) -> Result<(), OpenFault>
-    requires inside { at + length dst.old ≤ P.file_size payload.old }
-    requires held { IsOpen S.Shelf P.Payload shelf.old payload.old }
-    ensures bytes { OnOk result (Tells S.Shelf P.Payload shelf.old payload.old
-        (IsPartAt (P.file_size payload.old) at dst.new)) }
-    ensures fault { IfErr result (IsCopyFault (S.told shelf.old)) }
-    ensures stays { Stays S.Shelf P.Payload shelf.old shelf.new payload.old payload.new }
-    ensures cause { Blames S.Shelf shelf.old shelf.new result }
-{
-    match payload.copy_out(shelf, at, dst) {
-        Ok(()) => Ok(()),
+    match payload.copy_out(shelf, at, part) {
+        Ok(()) => step_in(header, part, at, size),
         Err(fault) => Err(shelf_fault(fault)),
     }
 }

@@ -1,36 +1,36 @@
-use Rattle.std.proofs.Common.{◌≡◌, ℕ, length, min, subst, ◌∙◌, arith}
-use Rattle.bl_file.specs.Held.{IsHeldAnd}
+use Rattle.std.proofs.Common.{◌≡◌, length, min, ◌∙◌, arith}
 use Rattle.bl_format.specs.Blocks.{header_of}
 use Rattle.bl_file.specs.declared.fault.OpenFault.TheVariants.{Head as InHead}
-use Rattle.bl_file.specs.Reading.{IsPartAt, IsOfHeader}
+use Rattle.bl_file.specs.Reading.{IsOfHeader}
+use Rattle.bl_file.proofs.CallLemmas.{copied_part}
 use Rattle.bl_file.proofs.Readings.{each_fault, header_read, header_fault, header_version, header_whole, window_length}
 use Rattle.bl_file.proofs.reading.read_header.Goals as goal
 
-pub returns-clause-version : goal.returns-clause-version
-returns-clause-version g c =
-    let fits : length c.read_part.new.dst ≡ min c.args.size 12 = let least = c.min.ensures in window_length c.min.result _ c.read_part.new.dst c.read_part.auto.dst (omega (arith, least)) ∙ least in
-    header_version (g.S.Shelf.told c.args.shelf.now) (g.P.Payload.file_name c.args.payload.now) c.args.size c.read_part.new.dst c.header_in.result fits c.header_in.ensures
+pub returns-in-Ok-clause-version : goal.returns-in-Ok-clause-version
+returns-in-Ok-clause-version g c =
+    let part = c.copy_out.new.dst in
+    let fits : length part ≡ min c.args.size 12 = let least = c.min.ensures in window_length c.min.result _ part c.copy_out.auto.dst (omega (arith, least)) ∙ least in
+    header_version (g.S.Shelf.told c.args.shelf.now) (g.P.Payload.file_name c.args.payload.now) c.args.size part c.header_in.result fits c.header_in.ensures
 
-pub returns-clause-whole : goal.returns-clause-whole
-returns-clause-whole g c =
-    let fits : length c.read_part.new.dst ≡ min c.args.size 12 = let least = c.min.ensures in window_length c.min.result _ c.read_part.new.dst c.read_part.auto.dst (omega (arith, least)) ∙ least in
-    header_whole (g.S.Shelf.told c.args.shelf.now) (g.P.Payload.file_name c.args.payload.now) c.args.size c.read_part.new.dst c.header_in.result fits c.header_in.ensures
+pub returns-in-Ok-clause-whole : goal.returns-in-Ok-clause-whole
+returns-in-Ok-clause-whole g c =
+    let part = c.copy_out.new.dst in
+    let fits : length part ≡ min c.args.size 12 = let least = c.min.ensures in window_length c.min.result _ part c.copy_out.auto.dst (omega (arith, least)) ∙ least in
+    header_whole (g.S.Shelf.told c.args.shelf.now) (g.P.Payload.file_name c.args.payload.now) c.args.size part c.header_in.result fits c.header_in.ensures
 
-pub returns-clause-read : goal.returns-clause-read
-returns-clause-read g c =
-    let told = g.S.Shelf.told c.args.shelf.now in
-    let name = g.P.Payload.file_name c.args.payload.now in
-    let fits : length c.read_part.new.dst ≡ min c.args.size 12 = let least = c.min.ensures in window_length c.min.result _ c.read_part.new.dst c.read_part.auto.dst (omega (arith, least)) ∙ least in
-    header_read told name c.args.size c.read_part.new.dst c.header_in.result fits c.header_in.ensures
-    (subst (λ (n : ℕ). IsHeldAnd told name (IsPartAt n 0 c.read_part.new.dst)) c.requires.size c.in_ok-read_part.ensures.bytes)
+pub returns-in-Ok-clause-read : goal.returns-in-Ok-clause-read
+returns-in-Ok-clause-read g c =
+    let part = c.copy_out.new.dst in
+    let fits : length part ≡ min c.args.size 12 = let least = c.min.ensures in window_length c.min.result _ part c.copy_out.auto.dst (omega (arith, least)) ∙ least in
+    header_read (g.S.Shelf.told c.args.shelf.now) (g.P.Payload.file_name c.args.payload.now) c.args.size part c.header_in.result fits c.header_in.ensures
+    (copied_part g.S.Shelf g.P.Payload c.args.shelf.now c.args.payload.now g.met.P.Payload.agreed_size c.requires.held c.args.size 0 part c.requires.size c.in-Ok.ensures.bytes)
 
-pub returns-clause-fault : goal.returns-clause-fault
-returns-clause-fault g c =
-    let told = g.S.Shelf.told c.args.shelf.now in
-    let name = g.P.Payload.file_name c.args.payload.now in
-    let fits : length c.read_part.new.dst ≡ min c.args.size 12 = let least = c.min.ensures in window_length c.min.result _ c.read_part.new.dst c.read_part.auto.dst (omega (arith, least)) ∙ least in
-    header_fault told name c.args.size c.read_part.new.dst c.header_in.result fits c.header_in.ensures
-    (subst (λ (n : ℕ). IsHeldAnd told name (IsPartAt n 0 c.read_part.new.dst)) c.requires.size c.in_ok-read_part.ensures.bytes)
+pub returns-in-Ok-clause-fault : goal.returns-in-Ok-clause-fault
+returns-in-Ok-clause-fault g c =
+    let part = c.copy_out.new.dst in
+    let fits : length part ≡ min c.args.size 12 = let least = c.min.ensures in window_length c.min.result _ part c.copy_out.auto.dst (omega (arith, least)) ∙ least in
+    header_fault (g.S.Shelf.told c.args.shelf.now) (g.P.Payload.file_name c.args.payload.now) c.args.size part c.header_in.result fits c.header_in.ensures
+    (copied_part g.S.Shelf g.P.Payload c.args.shelf.now c.args.payload.now g.met.P.Payload.agreed_size c.requires.held c.args.size 0 part c.requires.size c.in-Ok.ensures.bytes)
 
-pub returns-clause-kind : goal.returns-clause-kind
-returns-clause-kind g c = each_fault InHead (header_of c.read_part.new.dst) c.header_in.result IsOfHeader c.header_in.ensures (λ fault. tt)
+pub returns-in-Ok-clause-kind : goal.returns-in-Ok-clause-kind
+returns-in-Ok-clause-kind g c = each_fault InHead (header_of c.copy_out.new.dst) c.header_in.result IsOfHeader c.header_in.ensures (λ fault. tt)
