@@ -122,7 +122,8 @@ impl Payload for PagedPayload {
         }
         let place = at % PAGE_SIZE;
         if self.page_at == at - place && place + dst.len() as u64 <= self.filled as u64 {
-            copy_part(&self.page, place, dst);
+            let from = place as usize;
+            dst.copy_from_slice(&self.page[from..from + dst.len()]);
             return Ok(());
         }
         let mut done = 0;

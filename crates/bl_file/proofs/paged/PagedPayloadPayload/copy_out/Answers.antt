@@ -1,4 +1,4 @@
-use Rattle.std.proofs.Common.{◌≡◌, ◌-◌, ◌≤◌, ◌+◌, ◌%◌, ◌∙◌, ◌++◌, ap, sym, take, drop, length, arith}
+use Rattle.std.proofs.Common.{◌≡◌, ◌-◌, ◌≤◌, ◌+◌, ◌%◌, ◌∙◌, ◌++◌, ap, take, drop, length, arith}
 use Rattle.std.proofs.lemmas.List.{length-append}
 use Rattle.std.proofs.Math.Nat.{mod-le}
 use Rattle.bl_file.specs.Paged.{page_name}
@@ -9,14 +9,15 @@ use Rattle.bl_file.proofs.paged.PagedPayloadPayload.copy_out.Goals as goal
 pub returns-then-place-dst-clause-bytes : goal.returns-then-place-dst-clause-bytes
 returns-then-place-dst-clause-bytes g c =
     let p = c.args.self.now in
-    let part = c.copy_part.new.dst in
+    let part = c.copy_from_slice.new.self in
     let place = c.args.at % 65536 in
     let below = mod-le c.args.at 65536 in
     let begins : p.page_at ≡ c.args.at - place = c.if-self-at.true in
-    let long : length part ≡ length c.args.dst.now = c.copy_part.auto.dst in
+    let long : length part ≡ length c.args.dst.now = c.copy_from_slice.auto.self in
     let within : place + length part ≤ p.filled = rw long c.if-place-dst.true in
+    let there : place + length c.args.dst.now - place ≡ length part = omega (arith, long) in
     let copied : part ≡ take (length part) (drop place p.page.items) =
-    c.copy_part.ensures.copied ∙ ap (λ k. take k (drop place c.deref.result.now)) (sym long) ∙ ap (λ items. take (length part) (drop place items)) c.deref.ensures.value in
+    c.copy_from_slice.ensures.after ∙ ap (λ k. take k (drop place c.deref.result.now)) there ∙ ap (λ items. take (length part) (drop place items)) c.deref.ensures.value in
     copied_place (g.S.Shelf.told c.args.shelf.now) (page_name p) p.size p.page_at p.filled p.page.items c.requires.held c.args.at place part (omega (arith, begins, below)) within copied
 
 pub loop-done-preserved : goal.loop-done-preserved
