@@ -1,14 +1,18 @@
 -- What any words mean is lawful.
+pub mod Conversions
+pub mod Convert
+pub mod Schema
 use Rattle.std.proofs.Common.{Option, Some, None, refl}
 use Rattle.bl_commands.specs.declared.command.Command.{Command}
 use Rattle.bl_commands.specs.declared.command.Command.TheVariants as commands
 use Rattle.bl_run.specs.Commands.{meaning_of}
 use Rattle.bl_run.specs.Meaning.{IsLawful, no_meaning}
-use Rattle.bl_run.proofs.ConvertLaws.{convert_lawful}
-use Rattle.bl_run.proofs.SchemaLaws.{schema_lawful}
+use Rattle.bl_run.proofs.CommandLaws.Convert.{convert_lawful}
+use Rattle.bl_run.proofs.CommandLaws.Schema.{schema_lawful}
 
 none_lawful : IsLawful no_meaning
 none_lawful = record {
+  own = λ held. tt;
   caused = λ held. refl;
   able = λ held can. absurd can;
   accomplished = λ held held' w w' bytes done. absurd done;

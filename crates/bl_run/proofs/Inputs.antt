@@ -1,6 +1,6 @@
 -- What the checks of an input say of it: where none gives an ending it is held and accepted; an ending has its cause in it;
 -- and what is accepted passes them.
-use Rattle.std.proofs.Common.{◌≡◌, ◌<◌, ◌+◌, ℕ, List, [], ◌∷◌, length, Bool, true, false, cond, Option, Some, None, refl, sym, ap, ◌∙◌, inl, inr, arith}
+use Rattle.std.proofs.Common.{◌≡◌, ◌≢◌, ◌<◌, ◌+◌, ℕ, List, [], ◌∷◌, length, Bool, true, false, cond, Option, Some, None, refl, sym, ap, subst, ◌∙◌, inl, inr, arith}
 use Rattle.std.specs.Prelude.{option_map, unwrap_or, nat_lt, IfErr, IsOk}
 use Rattle.std.specs.FinMap.{get}
 use Rattle.bl_format.specs.Limits.{most_blocks, most_input_bytes}
@@ -12,12 +12,14 @@ use Rattle.bl_shelf.specs.Told.{Held}
 use Rattle.bl_file.specs.declared.fault.OpenFault.{OpenFault}
 use Rattle.bl_file.specs.declared.fault.OpenFault.TheVariants as opens
 use Rattle.bl_file.specs.Opening.{file_in, format_fault, open_fault}
+use Rattle.bl_file.specs.Refusals.{HasOpenFault}
 use Rattle.bl_file.proofs.AcceptedPasses.{accepted_opens, opens_few}
 use Rattle.bl_file.proofs.Checks.{passes-accepted}
 use Rattle.bl_file.proofs.RefusalLaws.{open_refused}
 use Rattle.bl_run.specs.Blame.{BlamesRisen, IsEndingOf}
 use Rattle.bl_run.specs.Input.{open_ending, bytes_held, input_checks, IsChecked, IsReadable, HasInputCause}
-use Rattle.bl_run.specs.Meaning.{Effect, unless_ending}
+use Rattle.bl_run.specs.Meaning.{Effect, IsOwnEnding, unless_ending}
+use Rattle.bl_run.proofs.Opens.{IsOfFault, of_fault}
 
 -- ---- where no check gives an ending
 
@@ -90,6 +92,32 @@ input_caused held input effect = by_first (first_ending (input_checks held input
     by_first : (first : Option Ending) → first_ending (input_checks held input) ≡ first → IfErr (unless_ending first effect) (HasInputCause held input)
     by_first (Some e) is = input_refused held input e is
     by_first None is = tt
+
+-- ---- an outcome by the checks of an input is the command's own ending
+
+own_of : (file : List ℕ) (fault : OpenFault) (e : Ending) → IsOfFault file fault e → fault ≢ opens.Device → IsOwnEnding (λ name. name ≡ file) e
+own_of file fault endings.NoCommand is device = absurd is
+own_of file fault endings.NoMemory is device = tt
+own_of file fault (endings.Absent name) is device = is.0
+own_of file fault endings.Device is device = absurd (device is)
+own_of file fault (endings.BadFile name why) is device = tt
+own_of file fault (endings.Missing lack) is device = tt
+own_of file fault (endings.FloatCast owner member) is device = tt
+own_of file fault (endings.PastLimit quantity count) is device = tt
+own_of file fault endings.Sink is device = absurd is
+
+-- no file's bytes have a fault of a device
+no_device : (bytes : Option (List ℕ)) (fault : OpenFault) → open_fault 0 bytes ≡ Some fault → fault ≢ opens.Device
+unfolding open_fault
+no_device None fault is = let same : opens.Absent ≡ fault = cc in λ device. cc
+no_device (Some b) fault is = λ device. absurd (subst (HasOpenFault 0 b) device (open_refused 0 b fault is))
+
+pub input_own : (held : Held) (input : List ℕ) (effect : Effect) → IfErr (unless_ending (first_ending (input_checks held input)) effect) (IsOwnEnding (λ name. name ≡ input))
+input_own held input effect = by_fault (open_fault 0 (get held input)) refl
+  where
+    by_fault : (o : Option OpenFault) → open_fault 0 (get held input) ≡ o → IfErr (unless_ending (first_ending (option_map (open_ending input) o ∷ [])) effect) (IsOwnEnding (λ name. name ≡ input))
+    by_fault None is = tt
+    by_fault (Some fault) is = own_of input fault (open_ending input fault) (of_fault input fault) (no_device (get held input) fault is)
 
 -- ---- how a command's checks end it
 

@@ -1,11 +1,8 @@
-pub mod Built
 pub mod CommandLaws
-pub mod Conversions
-pub mod ConvertLaws
 pub mod Gathers
 pub mod Inputs
 pub mod Obeying
 pub mod Opens
+pub mod Read
 pub mod Runs
-pub mod SchemaLaws
 pub mod Written

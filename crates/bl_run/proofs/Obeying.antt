@@ -18,7 +18,7 @@ use Rattle.bl_run.specs.Blame.{BlamesRisen, IsShelfBlamed, IsEndingOf, IsOfOutsi
 use Rattle.bl_run.specs.Meaning.{Effect, Meaning, IsDone, no_meaning}
 use Rattle.bl_run.specs.Obeying.{IsHistoryLeft, IsLeft, IsEnded, Does, Ends, Obeys, own_text, with_files}
 use Rattle.bl_run.specs.Printing.{IsCut, Puts}
-use Rattle.bl_run.specs.Staging.{IsStaged, IsReady, IsUnready, IsCommitted, IsUncommitted, Commits}
+use Rattle.bl_run.specs.Staging.{IsStaged, IsReady, IsUnready, IsCommitDone, IsCommitFailed, Commits}
 use Rattle.std.proofs.lemmas.List.{append-nil}
 use Rattle.bl_run.proofs.Written.{same_grown}
 
@@ -158,7 +158,7 @@ module _ {S O : Type 0} (g : Ghosts S) (h : SinkGhosts O) (m : Meaning) (name : 
       inl (1, staged ∙ ap (λ (names : List (List ℕ)). record { staged = (g.history s).staged ++ take 1 names; commits = (g.history s).commits }) (sym writes))
 
   -- a file that is ready and committed is done
-  ready_committed : (s2 : S) (o' : O) (line : Text) → IsReady g m name s s1 line → IsCommitted g h line s1 s2 o o' → Does g h m s s2 o o'
+  ready_committed : (s2 : S) (o' : O) (line : Text) → IsReady g m name s s1 line → IsCommitDone g h line s1 s2 o o' → Does g h m s s2 o o'
   ready_committed s2 o' line ready done = record {
     room = done.room;
     history = written_history s2 ready.history done.history;
@@ -178,7 +178,7 @@ module _ {S O : Type 0} (g : Ghosts S) (h : SinkGhosts O) (m : Meaning) (name : 
   left_history s2 e staged (inr failed) = inr (failed.0, written_history s2 staged failed.2)
 
   -- one that is ready and isn't committed ends so
-  ready_uncommitted : (s2 : S) (o' : O) (line : Text) (e : Ending) → IsReady g m name s s1 line → IsUncommitted g h line s1 s2 o o' e → Ends g h m s s2 o o' e
+  ready_uncommitted : (s2 : S) (o' : O) (line : Text) (e : Ending) → IsReady g m name s s1 line → IsCommitFailed g h line s1 s2 o o' e → Ends g h m s s2 o o' e
   ready_uncommitted s2 o' line e ready not = record {
     room = not.room;
     history = left_history s2 e ready.history not.left;
@@ -329,6 +329,10 @@ module _ {S O : Type 0} (g : Ghosts S) (h : SinkGhosts O) (m : Meaning) (none : 
   }
 
 -- ---- usage
+
+-- words that spell no command may say so
+pub no_usage : (command : Option Command) → command ≡ None → IsUsage {T = Unit {0}} command (Err endings.NoCommand)
+no_usage command none = rw none (inl refl)
 
 -- any words may want memory
 pub memory_usage : (command : Option Command) → IsUsage {T = Unit {0}} command (Err endings.NoMemory)

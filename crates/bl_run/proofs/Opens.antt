@@ -22,7 +22,7 @@ use Rattle.bl_run.specs.Opened.{IsUnopened}
 -- ---- the ending of a fault
 
 -- the fault that an ending may tell of: a file that isn't there, or a device; the sink and the words give none
-abbrev IsOfFault : List ℕ → OpenFault → Ending → Type 0
+abbrev pub IsOfFault : List ℕ → OpenFault → Ending → Type 0
 IsOfFault file fault endings.NoCommand = ⊥
 IsOfFault file fault endings.NoMemory = ⊤
 IsOfFault file fault (endings.Absent name) = (name ≡ file) × (fault ≡ opens.Absent)
@@ -33,7 +33,7 @@ IsOfFault file fault (endings.FloatCast owner member) = ⊤
 IsOfFault file fault (endings.PastLimit quantity count) = ⊤
 IsOfFault file fault endings.Sink = ⊥
 
-of_fault : (file : List ℕ) (fault : OpenFault) → IsOfFault file fault (open_ending file fault)
+pub of_fault : (file : List ℕ) (fault : OpenFault) → IsOfFault file fault (open_ending file fault)
 of_fault file opens.NoMemory = tt
 of_fault file opens.Absent = (refl, refl)
 of_fault file opens.Device = refl

@@ -1,30 +1,41 @@
--- The commands that this program has: the meaning of each, and of a run's words. A new command has a line in each of
--- the two tables. This project's own.
-use Rattle.std.specs.Prelude.{◌≡◌, ⊤, List, [], map, String, Option, Some}
+-- The commands that this program has: which these are, the meaning of each, and of a run's words. A new command has a line
+-- in each of the two tables. This project's own.
+pub mod Convert
+pub mod Schema
+use Rattle.std.specs.Prelude.{Bool, true, false, not, ◌||◌, List, map, String, Option, Some, None, is_some, option_and_then}
 use Rattle.std.specs.String.{string_bytes}
 use Rattle.std.specs.declared.alloc.Global.{Global}
 use Rattle.bl_commands.specs.declared.command.Command.{Command}
-use Rattle.bl_commands.specs.declared.command.Command.TheVariants.{Convert, Schema}
-use Rattle.bl_commands.specs.Commands.{command_of, convert_options}
+use Rattle.bl_commands.specs.declared.command.Command.TheVariants as commands
+use Rattle.bl_commands.specs.declared.command.ConvertOptions.{ConvertOptions}
+use Rattle.bl_commands.specs.Commands.{command_of, when}
 use Rattle.bl_run.specs.Meaning.{Meaning, no_meaning}
-use Rattle.bl_run.specs.Convert.{convert_meaning}
-use Rattle.bl_run.specs.Schema.{schema_meaning}
+use Rattle.bl_run.specs.Commands.Convert.{convert_meaning}
+use Rattle.bl_run.specs.Commands.Schema.{schema_meaning}
+
+-- convert is given no option
+abbrev pub has_no_option : ConvertOptions → Bool
+has_no_option o = not (is_some o.like || is_some o.width || is_some o.order || is_some o.head || is_some o.renames)
+
+-- this program has the command
+abbrev pub is_built : Command → Bool
+is_built (commands.Convert input out options) = has_no_option options
+is_built (commands.Schema input) = true
+is_built _ = false
+
+-- a command, where this program has it
+abbrev pub built : Command → Option Command
+built command = when (is_built command) command
 
 -- the meaning of a command that this program has
 abbrev pub meaning_of : Option Command → Meaning
-meaning_of (Some (Convert input out options)) = convert_meaning input out
-meaning_of (Some (Schema input)) = schema_meaning input
+meaning_of (Some (commands.Convert input out options)) = convert_meaning input out
+meaning_of (Some (commands.Schema input)) = schema_meaning input
 meaning_of _ = no_meaning
 
--- a command that this program has, where convert is given no option; the words spell no other
-abbrev pub IsBuilt : Command → Type 0
-IsBuilt (Convert input out options) = options ≡ convert_options []
-IsBuilt (Schema input) = ⊤
-IsBuilt _ = ⊥
-
--- the command that the words of a run spell
+-- the command that the words of a run spell, where this program has it
 abbrev pub command_in : List (String Global) → Option Command
-command_in words = command_of (map string_bytes words)
+command_in words = option_and_then built (command_of (map string_bytes words))
 
 -- what the words of a run mean
 abbrev pub meaning_in : List (String Global) → Meaning

@@ -1,6 +1,5 @@
 pub mod Blame
 pub mod Commands
-pub mod Convert
 pub mod Input
 pub mod Meaning
 pub mod Obeying
@@ -8,5 +7,4 @@ pub mod Opened
 pub mod Printing
 pub mod Rendering
 pub mod Run
-pub mod Schema
 pub mod Staging

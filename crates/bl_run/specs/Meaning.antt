@@ -2,7 +2,7 @@
 -- and why it refuses; all by what is held. This project's own.
 use Rattle.std.specs.Prelude.{◌≡◌, ⊤, ℕ, List, [], ◌∷◌, Option, Some, None, Result, Ok, Err, IsOk, IfOk, IfErr, IsOkAnd}
 use Rattle.bl_commands.specs.declared.ending.Ending.{Ending}
-use Rattle.bl_commands.specs.declared.ending.Ending.TheVariants.{NoCommand}
+use Rattle.bl_commands.specs.declared.ending.Ending.TheVariants.{NoCommand, Absent, Device, Sink}
 use Rattle.bl_commands.specs.Texts.{Text}
 use Rattle.bl_shelf.specs.Told.{Held, Staged, files_with}
 use Rattle.bl_shelf.specs.Written.{Grows}
@@ -48,9 +48,17 @@ pub record Meaning : Type 1 where
   -- the files give the cause of an ending
   pub has_cause : Held → Ending → Type 0
 
--- what a run needs of a meaning: endings have their cause; what can be done has an effect; that accomplishes what the
--- command is for; it holds the files that the command writes
+-- an ending that an outcome may be: no device or sink gave it; a file that it says isn't there may be missing
+abbrev pub IsOwnEnding : (List ℕ → Type 0) → Ending → Type 0
+IsOwnEnding may_miss (Absent file) = may_miss file
+IsOwnEnding may_miss Device = ⊥
+IsOwnEnding may_miss Sink = ⊥
+IsOwnEnding may_miss _ = ⊤
+
+-- what a run needs of a meaning: its endings are the command's own and have their cause; what can be done has an effect;
+-- that accomplishes what the command is for; it holds the files that the command writes
 pub record IsLawful (m : Meaning) : Type 0 where
+  pub own : (held : Held) → IfErr (m.outcome held) (IsOwnEnding m.may_miss)
   pub caused : (held : Held) → IfErr (m.outcome held) (m.has_cause held)
   pub able : (held : Held) → m.can_be_done held → IsOk (m.outcome held)
   pub accomplished : (held : Held) (held' : Option Held) (written written' : Option Text)

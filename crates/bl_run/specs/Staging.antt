@@ -36,7 +36,7 @@ pub record IsUnready {S : Type 0} (g : Ghosts S) (m : Meaning) (name : List ℕ)
   pub checked : IfSome (g.told s) (λ t. IsEndingOf (m.outcome t.held) ending)
 
 -- the line is put, and what was staged is held
-pub record IsCommitted {S O : Type 0} (g : Ghosts S) (h : SinkGhosts O) (line : Text) (s s' : S) (o o' : O) : Type 0 where
+pub record IsCommitDone {S O : Type 0} (g : Ghosts S) (h : SinkGhosts O) (line : Text) (s s' : S) (o o' : O) : Type 0 where
   pub room : g.room s' ≡ None
   pub told : g.told s' ≡ option_map commit_in (g.told s)
   pub history : g.history s' ≡ with_commit (g.history s)
@@ -45,7 +45,7 @@ pub record IsCommitted {S O : Type 0} (g : Ghosts S) (h : SinkGhosts O) (line : 
   pub puts : h.faults o' ≡ h.faults o
 
 -- a part of the line is put, and what was staged is forgotten; or, where a device failed the commit, it is held
-pub record IsUncommitted {S O : Type 0} (g : Ghosts S) (h : SinkGhosts O) (line : Text) (s s' : S) (o o' : O) (ending : Ending) : Type 0 where
+pub record IsCommitFailed {S O : Type 0} (g : Ghosts S) (h : SinkGhosts O) (line : Text) (s s' : S) (o o' : O) (ending : Ending) : Type 0 where
   pub room : g.room s' ≡ None
   pub left : ((g.told s' ≡ option_map abandon_in (g.told s)) × (g.history s' ≡ g.history s))
       ⊎ ((ending ≡ Device) × (g.told s' ≡ option_map commit_in (g.told s)) × (g.history s' ≡ with_commit (g.history s)))
@@ -55,5 +55,5 @@ pub record IsUncommitted {S O : Type 0} (g : Ghosts S) (h : SinkGhosts O) (line 
 
 -- what is staged is committed behind its line, or why it isn't
 abbrev pub Commits : {S O T : Type 0} → Ghosts S → SinkGhosts O → Text → S → S → O → O → Result T Ending → Type 0
-Commits g h line s s' o o' (Ok _) = IsCommitted g h line s s' o o'
-Commits g h line s s' o o' (Err ending) = IsUncommitted g h line s s' o o' ending
+Commits g h line s s' o o' (Ok _) = IsCommitDone g h line s s' o o'
+Commits g h line s s' o o' (Err ending) = IsCommitFailed g h line s s' o o' ending

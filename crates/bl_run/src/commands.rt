@@ -1,47 +1,55 @@
-// A run of the program.
-ghost use Rattle.std.specs.Prelude.{◌≡◌, ◌≢◌, ◌⊎◌, ◌≤◌, None, Some, IfErr, IfSome, IsOk};
-ghost use Rattle.bl_shelf.specs.Causes.{Rose};
-ghost use Rattle.bl_shelf.specs.Told.{held_of};
-ghost use Rattle.bl_run.specs.Blame.{IsNotUsage, IsUsage};
-ghost use Rattle.bl_run.specs.Commands.{IsBuilt, command_in, meaning_in, meaning_of};
-ghost use Rattle.bl_run.specs.Meaning.{IsDone, IsLawful};
+// The commands that this program has. A new one has a module, and an arm here.
+ghost use Rattle.std.specs.Prelude.{◌≡◌, None};
+ghost use Rattle.bl_run.specs.Blame.{IsUsage};
+ghost use Rattle.bl_run.specs.Commands.{built, command_in, has_no_option, meaning_in, meaning_of};
 ghost use Rattle.bl_run.specs.Obeying.{Obeys};
-ghost use Rattle.bl_run.specs.Run.{Concludes, IsBlamedFor, IsStatus, IsStatusOf, LeavesFiles, PutsLines, Reports, TellsAbsent, Writes};
 
-use crate::convert::convert;
-use crate::schema::schema;
+mod convert;
+mod schema;
+
 use bl_commands::Ending;
-use bl_lines::{fault_line, status_of};
-use bl_shelf::{Shelf, Sink, SinkFault};
-use bl_words::{Command, command_of};
+use bl_shelf::{Shelf, Sink};
+use bl_words::{Command, ConvertOptions, command_of};
 use std::alloc::Global;
 
-// Does what a command says.
+// Whether convert is given no option.
+fn has_no_option(options: &ConvertOptions) -> bool
+    ensures { result ≡ has_no_option options.now }
+{
+    options.like.is_none()
+        && options.width.is_none()
+        && options.order.is_none()
+        && options.head.is_none()
+        && options.renames.is_none()
+}
+
+// Does what a command says, if this program has it.
 fn obey<S: Shelf, O: Sink>(
     alloc: Global,
     command: &Command,
     shelf: &mut S,
     out: &mut O,
 ) -> Result<(), Ending>
-    requires idle { S.room shelf.old ≡ None }
-    requires built { IsBuilt command.now }
-    ensures obeys { Obeys S.Shelf O.Sink (meaning_of (Some command.now))
+    requires { S.room shelf.old ≡ None }
+    ensures obeys { Obeys S.Shelf O.Sink (meaning_of (built command.now))
         shelf.old shelf.new out.old out.new result }
-    ensures spelled { IfErr result IsNotUsage }
+    ensures usage { IsUsage (built command.now) result }
 {
     match command {
         Command::Convert {
             input,
             out: name,
-            ..
-        } => convert(alloc, input.as_str(), name.as_str(), shelf, out),
-        Command::Schema { input } => schema(alloc, input.as_str(), shelf, out),
-        _ => unreachable!(),
+            options,
+        } if has_no_option(options) => {
+            convert::convert(alloc, input.as_str(), name.as_str(), shelf, out)
+        }
+        Command::Schema { input } => schema::schema(alloc, input.as_str(), shelf, out),
+        _ => Err(Ending::NoCommand),
     }
 }
 
-// Does what the words spell.
-fn perform<S: Shelf, O: Sink>(
+/// Does what the words spell, if they spell a command that this program has.
+pub fn perform<S: Shelf, O: Sink>(
     alloc: Global,
     words: &[String],
     shelf: &mut S,
@@ -57,91 +65,4 @@ fn perform<S: Shelf, O: Sink>(
         Ok(None) => Err(Ending::NoCommand),
         Ok(Some(command)) => obey(alloc, &command, shelf, out),
     }
-}
-
-// Puts the line of what ended a run, and answers the status.
-fn report<O: Sink>(alloc: Global, ending: &Ending, out: &mut O) -> u8
-    ensures reports { Reports ending.now result (O.faults out.old) (O.faults out.new)
-        (O.written out.old) (O.written out.new) }
-    ensures later { O.faults out.old ≤ O.faults out.new }
-{
-    let no_memory = status_of(&Ending::NoMemory);
-    match fault_line(alloc, ending) {
-        Err(_) => no_memory,
-        Ok(line) => match out.put(&line) {
-            Ok(()) | Err(SinkFault::Failed) => status_of(ending),
-            Err(SinkFault::NoMemory) => no_memory,
-        },
-    }
-}
-
-// Answers the status of a run, and puts the line of what ended it; a sink that failed gets none.
-fn conclude<O: Sink>(alloc: Global, done: Result<(), Ending>, out: &mut O) -> u8
-    ensures concludes { Concludes done result (O.faults out.old) (O.faults out.new)
-        (O.written out.old) (O.written out.new) }
-    ensures later { O.faults out.old ≤ O.faults out.new }
-{
-    match done {
-        Ok(()) => 0,
-        Err(Ending::Sink) => status_of(&Ending::Sink),
-        Err(ending) => report(alloc, &ending, out),
-    }
-}
-
-/// Does what the words spell, and answers the status of the process: 0 where it is done; 2 where
-/// the words spell no command; 3 where memory is wanted; 4 where the input isn't held; 5 where a
-/// device of the shelf failed; 6 where the input is refused; 9 where it passes a limit; 10 where
-/// the sink failed.
-///
-/// The line of a conversion is put before the output is committed. A run that ends with another
-/// status than 0 and 10 puts a line of what ended it; after 3, and where the sink fails, a part of
-/// that line or all of it may be missing. After 0 the output of a conversion is held; after 3 and
-/// 5 it may be, where the commit itself failed; after all others, and whatever is printed, what is
-/// held is what was.
-pub fn run<S: Shelf, O: Sink>(alloc: Global, words: &[String], shelf: &mut S, out: &mut O) -> u8
-    requires { S.room shelf.old ≡ None }
-    ensures statuses { IsStatus (command_in words.now) result }
-    ensures room { S.room shelf.new ≡ None }
-
-    // What the words mean keeps the laws of a command: its endings have their causes in the files,
-    // what can be done is done, and what is done is what the command is for.
-    ensures lawful { IsLawful (meaning_in words.now) }
-
-    // The outcome of the command decides the status, unless memory, a device or the sink ended the
-    // run.
-    ensures checked { IfSome (S.told shelf.old) (λ t.
-        IsStatusOf ((meaning_in words.now).outcome t.held) result) }
-    ensures complete { IfSome (S.told shelf.old) (λ t.
-        IsOk ((meaning_in words.now).outcome t.held)
-        → ¬ Rose (S.faults shelf.old) (S.faults shelf.new)
-        → ¬ Rose (O.faults out.old) (O.faults out.new)
-        → (result ≡ 0) ⊎ (result ≡ 3)) }
-
-    // What status 0 does, and what that is: a conversion of the input, which reads back, or the
-    // print of its catalogue.
-    ensures done { IfSome (S.told shelf.old) (λ t. result ≡ 0
-        → IsDone ((meaning_in words.now).outcome t.held) t.held
-        (held_of (S.told shelf.new)) (O.written out.old) (O.written out.new)) }
-    ensures accomplishes { IfSome (S.told shelf.old) (λ t. result ≡ 0
-        → (meaning_in words.now).accomplishes t.held (held_of (S.told shelf.new))
-        (O.written out.old) (O.written out.new)) }
-
-    // What another status leaves, and which lines are put.
-    ensures left { IfSome (S.told shelf.old) (λ t. result ≢ 0
-        → LeavesFiles ((meaning_in words.now).outcome t.held) result t.held
-        (held_of (S.told shelf.new)) (S.faults shelf.old) (S.faults shelf.new)) }
-    ensures lines { IfSome (S.told shelf.old) (λ t. result ≢ 0
-        → PutsLines ((meaning_in words.now).outcome t.held) result
-        (O.faults out.old) (O.faults out.new) (O.written out.old) (O.written out.new)) }
-
-    // The same of a shelf that tells nothing: which files are staged and committed, whom a status
-    // blames, and which file isn't there.
-    ensures writes { Writes (meaning_in words.now).writes result (S.history shelf.old)
-        (S.history shelf.new) (S.faults shelf.old) (S.faults shelf.new) }
-    ensures blames { IsBlamedFor S.Shelf O.Sink shelf.old shelf.new out.old out.new result }
-    ensures absent { result ≡ 4 → TellsAbsent (meaning_in words.now)
-        (O.faults out.old) (O.faults out.new) (O.written out.old) (O.written out.new) }
-{
-    let done = perform(alloc, words, shelf, out);
-    conclude(alloc, done, out)
 }

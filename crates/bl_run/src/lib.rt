@@ -3,9 +3,8 @@
 
 mod commands;
 mod committing;
-mod convert;
 mod opening;
 mod printing;
-mod schema;
+mod running;
 
-pub use commands::run;
+pub use running::run;

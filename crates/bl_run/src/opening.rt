@@ -1,35 +1,12 @@
-// Opens the input of a command, and tells how each fault of that ends the run.
-ghost use Rattle.std.specs.Prelude.{◌≡◌, ◌⊎◌, IfOk, IfErr, OnOk};
-ghost use Rattle.bl_shelf.specs.Calls.{Keeps, IsQuiet};
-ghost use Rattle.bl_run.specs.Blame.{IsNotUsage};
+// How each fault of a command's input ends the run.
+ghost use Rattle.std.specs.Prelude.{◌≡◌, ◌⊎◌, IfOk};
 ghost use Rattle.bl_run.specs.Input.{open_ending};
-ghost use Rattle.bl_run.specs.Opened.{IsInput, IsUnopened};
 
 use bl_commands::{Ending, FileFault, Quantity};
-use bl_file::{OpenFault, Opened, Payload, open};
+use bl_file::OpenFault;
 use bl_lines::{block_ending, head_ending, layout_ending, sdna_ending};
 use bl_num::Text;
-use bl_shelf::Shelf;
 use std::alloc::{AllocError, Global};
-
-/// Opens the file under a name, the only input of its command.
-pub fn open_input<S: Shelf, P: Payload>(
-    alloc: Global,
-    name: &str,
-    shelf: &mut S,
-) -> Result<Opened<P>, Ending>
-    ensures keeps { Keeps S.Shelf shelf.old shelf.new }
-    ensures quiet { OnOk result (IsQuiet S.Shelf shelf.old shelf.new) }
-    ensures input { IfOk result (λ file.
-        IsInput S.Shelf P.Payload name.now shelf.new file.outline file.payload) }
-    ensures unopened { IfErr result (IsUnopened S.Shelf name.now shelf.old shelf.new) }
-    ensures spelled { IfErr result IsNotUsage }
-{
-    match open(alloc, shelf, name, 0) {
-        Ok(file) => Ok(file),
-        Err(fault) => Err(open_ending(alloc, name, fault)),
-    }
-}
 
 /// A file's name as an owned text.
 pub fn name_text(alloc: Global, name: &str) -> Result<Text, AllocError>
@@ -38,8 +15,8 @@ pub fn name_text(alloc: Global, name: &str) -> Result<Text, AllocError>
     Text::from_slice(alloc, name.as_bytes())
 }
 
-// How a fault of the file under a name ends a run.
-fn open_ending(alloc: Global, name: &str, fault: OpenFault) -> Ending
+/// How a fault of the file under a name ends a run, unless memory is wanted for the name.
+pub fn open_ending(alloc: Global, name: &str, fault: OpenFault) -> Ending
     ensures { (result ≡ open_ending name.now fault) ⊎ (result ≡ Ending.NoMemory) }
 {
     match name_text(alloc, name) {
