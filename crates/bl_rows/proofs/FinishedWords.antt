@@ -12,10 +12,10 @@ use Rattle.bl_commands.specs.declared.command.Command.TheVariants as commands
 use Rattle.bl_commands.specs.declared.command.HeadForm.{HeadForm}
 use Rattle.bl_commands.specs.declared.command.HeadForm.TheVariants.{Classic, Wide}
 use Rattle.bl_commands.specs.declared.keeper.Keeper.TheVariants as keepers
-use Rattle.bl_commands.specs.Commands.{Word, forms, command_by, keeper_word}
+use Rattle.bl_commands.specs.Commands.{Word, forms, command_by, keeper_word, keepers_of, option_given, are_options}
 
 unfoldable words : ℕ
-unfolding keeper_word
+unfolding keeper_word keepers_of option_given are_options
 words = 0
 
 -- what words spell, with one space between each two

@@ -1,0 +1,4 @@
+mod FewWords
+mod KeeperLemmas
+mod NumberLemmas
+mod PathLemmas

@@ -1,29 +1,24 @@
 //! Which command the words of a command line spell.
 #![tactic(auto)]
 
-ghost use Rattle.std.specs.Prelude.{◌≡◌, [], ◌∷◌, map, IfOk};
+mod commands;
+mod options;
+mod paths;
+mod words;
+
+ghost use Rattle.std.specs.Prelude.{◌≡◌, ◌∷◌, map, drop, IfOk};
+ghost use Rattle.std.specs.Str.{bytes_eq};
 ghost use Rattle.std.specs.String.{string_bytes};
-ghost use Rattle.bl_commands.specs.Commands.{is_file_word, convert_words, one_file, command_of};
-ghost use Rattle.bl_commands.specs.declared.command.Command.TheVariants.{Schema};
+ghost use Rattle.bl_commands.specs.Commands.{command_by, command_of, forms};
 
-pub use bl_commands::{Command, ConvertOptions, Word};
+pub use bl_commands::{Command, ConvertOptions, HeadForm, Keeper, Word};
 use bl_num::NoMemory;
+use commands::{
+    append_of, convert_of, dump_of, edit_of, fates_of, link_of, list_of, make_of, purge_of,
+    query_of, recount_of, resolve_of, schema_of, split_of, unused_of,
+};
 use std::alloc::Global;
-
-/// The greatest length of a word that names a file, in bytes.
-const LONGEST_FILE_WORD: usize = 1023;
-
-/// Whether a word names a file. A name that ends in `.bl-part` is kept for files that are being
-/// written.
-pub fn is_file_word(word: &str) -> bool
-    ensures { result ≡ is_file_word word.now }
-{
-    let bytes = word.as_bytes();
-    !bytes.is_empty()
-        && bytes.len() <= LONGEST_FILE_WORD
-        && !bytes.contains(&0)
-        && !bytes.ends_with(b".bl-part")
-}
+pub use words::is_file_word;
 
 /// The command that the words behind the program's name spell, or none.
 #[tactic(auto, unfolding(bl_commands::specs::Commands::command_of))]
@@ -31,42 +26,70 @@ pub fn command_of(alloc: Global, words: &[String]) -> Result<Option<Command>, No
     ensures { IfOk result (λ command. command ≡ command_of (map string_bytes words.now)) }
 {
     match words.split_first() {
-        Some((name, rest)) if name.as_str() == "convert" => convert_of(alloc, rest),
-        Some((name, rest)) if name.as_str() == "schema" => schema_of(alloc, rest),
-        _ => Ok(None),
+        Some((name, rest)) => named(alloc, name.as_str(), rest),
+        None => Ok(None),
     }
 }
 
-// What the words behind `convert` spell: the names of the input and the output.
-fn convert_of(alloc: Global, words: &[String]) -> Result<Option<Command>, NoMemory>
-    ensures { IfOk result (λ command. command ≡ convert_words [] (map string_bytes words.now)) }
+// The command of a name with the words behind it.
+fn named(alloc: Global, name: &str, rest: &[String]) -> Result<Option<Command>, NoMemory>
+    ensures { IfOk result (λ command. command ≡ command_by forms (name.now ∷ map string_bytes rest.now)) }
 {
-    match words {
-        [input, out] if is_file_word(input.as_str()) && is_file_word(out.as_str()) => {
-            Ok(Some(Command::Convert {
-                input: Word::from_str(alloc, input.as_str())?,
-                out: Word::from_str(alloc, out.as_str())?,
-                options: ConvertOptions {
-                    like: None,
-                    width: None,
-                    order: None,
-                    head: None,
-                    renames: None,
-                },
-            }))
-        }
-        _ => Ok(None),
+    if is_named("convert", name) {
+        convert_of(alloc, rest)
+    } else if is_named("append", name) {
+        append_of(alloc, rest)
+    } else if is_named("link", name) {
+        link_of(alloc, rest)
+    } else if is_named("resolve", name) {
+        resolve_of(alloc, rest)
+    } else if is_named("recount", name) {
+        recount_of(alloc, rest)
+    } else {
+        named_later(alloc, name, rest)
     }
 }
 
-// What the words behind `schema` spell: the name of the input.
-fn schema_of(alloc: Global, words: &[String]) -> Result<Option<Command>, NoMemory>
-    ensures { IfOk result (λ command. command ≡ one_file Schema (map string_bytes words.now)) }
+// The same of all commands but the first five.
+fn named_later(alloc: Global, name: &str, rest: &[String]) -> Result<Option<Command>, NoMemory>
+    ensures { IfOk result (λ command. command ≡ command_by (drop 5 forms) (name.now ∷ map string_bytes rest.now)) }
 {
-    match words {
-        [input] if is_file_word(input.as_str()) => Ok(Some(Command::Schema {
-            input: Word::from_str(alloc, input.as_str())?,
-        })),
-        _ => Ok(None),
+    if is_named("make", name) {
+        make_of(alloc, rest)
+    } else if is_named("schema", name) {
+        schema_of(alloc, rest)
+    } else if is_named("fates", name) {
+        fates_of(alloc, rest)
+    } else if is_named("list", name) {
+        list_of(alloc, rest)
+    } else if is_named("query", name) {
+        query_of(alloc, rest)
+    } else {
+        named_last(alloc, name, rest)
     }
+}
+
+// The same of the last five commands.
+fn named_last(alloc: Global, name: &str, rest: &[String]) -> Result<Option<Command>, NoMemory>
+    ensures { IfOk result (λ command. command ≡ command_by (drop 10 forms) (name.now ∷ map string_bytes rest.now)) }
+{
+    if is_named("dump", name) {
+        dump_of(alloc, rest)
+    } else if is_named("edit", name) {
+        edit_of(alloc, rest)
+    } else if is_named("purge", name) {
+        purge_of(alloc, rest)
+    } else if is_named("unused", name) {
+        unused_of(alloc, rest)
+    } else if is_named("split", name) {
+        split_of(alloc, rest)
+    } else {
+        Ok(None)
+    }
+}
+
+fn is_named(command: &str, name: &str) -> bool
+    ensures { result ≡ bytes_eq command.now name.now }
+{
+    command == name
 }
