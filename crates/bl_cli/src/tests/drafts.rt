@@ -1,14 +1,14 @@
 // Drafts of whole files, and what is told of their entries.
-ghost use Rattle.std.specs.Prelude.{◌≡◌, IfOk};
+ghost use Rattle.std.specs.Prelude.{◌≡◌, IfOk, IfSome};
 ghost use Rattle.bl_file.specs.Held.{IsHeldAnd};
 ghost use Rattle.bl_file.specs.Outlines.{IsSound, StandsFor};
 ghost use Rattle.bl_draft.specs.Own.{IsOwnDraft};
 
 use super::examples::{catalogue_in, changed};
 use bl_draft::{Draft, Entry, heads_of, is_of_all, kinds_of_entries, targets_of, whole_draft};
-use bl_file::{Opened, Payload, RawKind, Targets, WholePayload, open};
+use bl_file::{Head, Opened, Payload, RawKind, Targets, WholePayload, open};
 use bl_layout::{Layout, copy_of};
-use bl_num::NoMemory;
+use bl_num::{NoMemory, Order, Width};
 use bl_shelf::{Shelf, SteadyShelf};
 use std::alloc::Global;
 
@@ -43,74 +43,114 @@ const C: u8 = 3;
 
 const D: u8 = 4;
 
+// The layout of a catalogue that some bytes hold, at a width.
+fn layout_in(alloc: Global, order: Order, bytes: &[u8], width: Width) -> Option<Layout>
+    ensures { IfSome result (λ layout. layout.width ≡ width) }
+{
+    match catalogue_in(alloc, order, bytes) {
+        Ok(catalogue) => Layout::new(alloc, &catalogue, width).ok(),
+        Err(_) => None,
+    }
+}
+
+// The draft of all nodes of a file under a catalogue that some bytes hold.
+fn draft_under<P>(alloc: Global, file: &Opened<P>, bytes: &[u8]) -> Option<Draft>
+    requires { IsSound file.now.outline }
+{
+    let header = file.outline.header;
+    let layout = layout_in(alloc, header.order, bytes, header.width)?;
+    match copy_of(alloc, layout.catalogue()) {
+        Ok(catalogue) => whole_draft(alloc, file, header, catalogue).ok(),
+        Err(_) => None,
+    }
+}
+
+// The same of the file `a`.
+fn draft_on<S: Shelf>(alloc: Global, shelf: &mut S, bytes: &[u8]) -> Option<Draft> {
+    match open::<S, WholePayload>(alloc, shelf, "a", 0) {
+        Ok(file) => draft_under(alloc, &file, bytes),
+        Err(_) => None,
+    }
+}
+
 // The draft of the nine nodes under a catalogue whose first struct and last struct have these types.
 fn draft_by(alloc: Global, first: u8, last: u8) -> Option<Draft> {
     let mut shelf = SteadyShelf::new(alloc);
     shelf.hold("a", NINE).ok()?;
-    let Ok(file) = open::<SteadyShelf, WholePayload>(alloc, &mut shelf, "a", 0) else {
-        return None;
-    };
-    let header = file.outline.header;
     let bytes = changed(alloc, NINE, CATALOGUE + FIRST_TYPE, &[first]).ok()?;
     let bytes = changed(alloc, &bytes, CATALOGUE + LAST_TYPE, &[last]).ok()?;
-    let Ok(catalogue) = catalogue_in(alloc, header.order, bytes.get(CATALOGUE..)?) else {
-        return None;
-    };
-    let Ok(layout) = Layout::new(alloc, &catalogue, header.width) else {
-        return None;
-    };
-    let Ok(catalogue) = copy_of(alloc, layout.catalogue()) else {
-        return None;
-    };
-    whole_draft(alloc, &file, header, catalogue).ok()
+    draft_on(alloc, &mut shelf, bytes.get(CATALOGUE..)?)
 }
 
-// Whether an entry is a node of the one file.
-fn is_node(entry: &Entry, want: u32) -> bool {
+// No node has this number.
+const NO_NODE: u32 = 0xffff_ffff;
+
+// The number of the node that an entry is, of the one file.
+fn node_of(entry: &Entry) -> u32 {
     match entry {
-        Entry::Source { file, node } => *file == 0 && *node == want,
-        _ => false,
+        Entry::Source { file: 0, node } => *node,
+        _ => NO_NODE,
     }
 }
 
-// Whether a draft is there, with these nodes and these images.
-fn is_draft(draft: &Option<Draft>, nodes: &[u32], images: &[u32]) -> bool {
-    let Some(draft) = draft else {
-        return false;
-    };
+// The numbers of the nodes that entries are.
+fn nodes_of(alloc: Global, entries: &[Entry]) -> Option<Vec<u32>> {
+    let mut nodes = Vec::new(alloc);
+    for entry in entries {
+        nodes.push(node_of(entry)).ok()?;
+    }
+    Some(nodes)
+}
+
+// Whether a draft has these nodes and these images.
+fn is_draft(alloc: Global, draft: &Draft, nodes: &[u32], images: &[u32]) -> bool {
     let [own] = draft.images.as_slice() else {
         return false;
     };
-    let entries = draft.entries.as_slice();
-    entries.len() == nodes.len()
-        && entries
-            .iter()
-            .zip(nodes)
-            .all(|(entry, n)| is_node(entry, *n))
-        && own.as_slice() == images
-}
-
-// Whether a draft is there that has all of so many nodes, each as its own image.
-fn is_whole(draft: &Option<Draft>, count: usize) -> bool {
-    match draft {
-        Some(draft) => draft.images.as_slice().len() == 1 && is_of_all(draft, count),
+    match nodes_of(alloc, draft.entries.as_slice()) {
+        Some(found) => found.as_slice() == nodes && own.as_slice() == images,
         None => false,
     }
 }
 
+// Whether the draft under a catalogue with these types has these nodes and these images.
+fn keeps(alloc: Global, types: [u8; 2], nodes: &[u32], images: &[u32]) -> bool {
+    let [first, last] = types;
+    match draft_by(alloc, first, last) {
+        Some(draft) => is_draft(alloc, &draft, nodes, images),
+        None => false,
+    }
+}
+
+// Whether a draft has all of so many nodes, each as its own image.
+fn is_whole(draft: &Draft, count: usize) -> bool {
+    if draft.images.as_slice().len() != 1 {
+        return false;
+    }
+    is_of_all(draft, count)
+}
+
+// Whether the draft under a catalogue with these types does.
+fn keeps_all(alloc: Global, types: [u8; 2], count: usize) -> Option<bool> {
+    let [first, last] = types;
+    let draft = draft_by(alloc, first, last)?;
+    Some(is_whole(&draft, count))
+}
+
 #[test]
 fn keeps_what_a_catalogue_names(rt: HostRuntime) {
-    // Under its own catalogue all.
-    let own = draft_by(rt.alloc(), A, C);
     let all = [0, 1, 2, 3, 4, 5, 6, 7, 8];
-    assert!(rt; is_draft(&own, &all, &[1, 2, 3, 4, 5, 6, 7, 8, 9]));
-    assert!(rt; is_whole(&own, 9));
-    assert!(rt; !is_whole(&own, 8));
-
-    // C is at number 0, which no node has as its struct: its group goes with its head.
-    let other = draft_by(rt.alloc(), C, D);
-    assert!(rt; is_draft(&other, &[0, 1, 3, 7, 8], &[1, 2, 0, 3, 0, 0, 0, 4, 5]));
-    assert!(rt; !is_whole(&other, 9));
+    for (types, nodes, images) in [
+        // Its own catalogue.
+        ([A, C], all.as_slice(), [1, 2, 3, 4, 5, 6, 7, 8, 9]),
+        // C is at number 0, which no node has as its struct: its group goes with its head.
+        ([C, D], &[0, 1, 3, 7, 8], [1, 2, 0, 3, 0, 0, 0, 4, 5]),
+    ] {
+        assert!(rt; keeps(rt.alloc(), types, nodes, &images));
+    }
+    for (types, count, want) in [([A, C], 9, true), ([A, C], 8, false), ([C, D], 9, false)] {
+        assert_eq!(rt; keeps_all(rt.alloc(), types, count), Some(want));
+    }
 }
 
 // Two groups: a mesh at 12, which stood at 0x100 and names the raw block at 52, which stood at
@@ -135,13 +175,21 @@ fn own_draft<P>(alloc: Global, file: &Opened<P>) -> Result<Draft, NoMemory>
     whole_draft(alloc, file, outline.header, catalogue)
 }
 
-// Whether the entries of the file's own draft stood at these places.
-fn stand_at<P>(alloc: Global, file: &Opened<P>, want: &[u64]) -> Option<bool>
+// Where three heads stood.
+fn places_of(heads: &[Head]) -> Option<[u64; 3]> {
+    match heads {
+        [first, second, third] => Some([first.at, second.at, third.at]),
+        _ => None,
+    }
+}
+
+// Where the three entries of the file's own draft stood.
+fn places<P>(alloc: Global, file: &Opened<P>) -> Option<[u64; 3]>
     requires { IsSound file.now.outline }
 {
     let draft = own_draft(alloc, file).ok()?;
     let heads = heads_of(alloc, &file.outline, &draft).ok()?;
-    Some(heads.len() == want.len() && heads.iter().zip(want).all(|(head, at)| head.at == *at))
+    places_of(&heads)
 }
 
 // Whether an address names this from an entry of the file's own draft.
@@ -207,7 +255,7 @@ fn are_told<S: Shelf>(alloc: Global, shelf: &mut S) -> Option<bool> {
     let Ok(mut file) = open::<S, WholePayload>(alloc, shelf, "a", 0) else {
         return None;
     };
-    let heads = stand_at(alloc, &file, &[12, 52, 80])?;
+    let heads = places(alloc, &file)? == [12, 52, 80];
     let names = are_named(alloc, &file)?;
     let kinds = [RawKind::Bytes, RawKind::Numbers(4), RawKind::Bytes];
     Some(heads && names && have_kinds(alloc, &mut file, shelf, &kinds)?)

@@ -1,8 +1,12 @@
 // Files that are opened, and the bytes of their parts.
+ghost use Rattle.std.specs.Prelude.{◌≡◌, ◌≤◌};
+ghost use Rattle.bl_format.specs.Limits.{most_input_bytes};
+ghost use Rattle.bl_file.specs.Calls.{IsOpen};
+
 use bl_file::{
     Head, Header, OpenFault, Opened, Outline, PagedPayload, Payload, RawKind, WholePayload, open,
 };
-use bl_num::{Order, Width};
+use bl_num::{NoMemory, Order, Width};
 use bl_shelf::{MemoryShelf, Shelf, ShelfFault, SteadyShelf};
 use std::alloc::Global;
 use std::test::Fail;
@@ -57,14 +61,25 @@ fn is_one_block(outline: &Outline, header: Header) -> bool {
         && outline.kinds.as_slice() == [RawKind::Bytes].as_slice()
 }
 
-// Opens the file `a`, where it and others before it may be as long as a run's.
-fn opened<P: Payload>(alloc: Global, bytes: &[u8], used: u64) -> Result<Opened<P>, OpenFault> {
+// Opens a file behind others of so many bytes.
+fn opened_on<P: Payload, S: Shelf>(
+    alloc: Global,
+    shelf: &mut S,
+    name: &str,
+    used: u64,
+) -> Result<Opened<P>, OpenFault>
+    requires { used ≤ most_input_bytes }
+{
+    open(alloc, shelf, name, used)
+}
+
+// The same of the file `a` with these bytes.
+fn opened<P: Payload>(alloc: Global, bytes: &[u8], used: u64) -> Result<Opened<P>, OpenFault>
+    requires { used ≤ most_input_bytes }
+{
     let mut shelf = SteadyShelf::new(alloc);
     shelf.hold("a", bytes)?;
-    if used > MOST {
-        return Err(OpenFault::TooLarge(used));
-    }
-    open(alloc, &mut shelf, "a", used)
+    opened_on(alloc, &mut shelf, "a", used)
 }
 
 // Whether a file is read as one raw block, however its bytes are held.
@@ -74,32 +89,42 @@ fn is_read(alloc: Global, bytes: &[u8], header: Header) -> Result<bool, OpenFaul
     Ok(is_one_block(&whole.outline, header) && is_one_block(&paged.outline, header))
 }
 
-// Opens the file "a" and copies a part of it, if it has one at that place.
-fn copy_of_opened<P: Payload, S: Shelf>(
-    alloc: Global,
+// Whether a part of a file is copied, where it has one at that place.
+fn copies_out<P: Payload, S: Shelf>(
+    payload: &mut P,
     shelf: &mut S,
+    size: u64,
     at: u64,
     part: &mut [u8],
-) -> Result<(), OpenFault> {
-    let mut file: Opened<P> = open(alloc, shelf, "a", 0)?;
-    let size = file.outline.size;
+) -> bool
+    requires size { P.file_size payload.old ≡ size }
+    requires held { IsOpen S.Shelf P.Payload shelf.old payload.old }
+{
     let len = part.len() as u64;
-    if len > size || at > size - len {
-        return Err(OpenFault::Absent);
+    if size < len || size - len < at {
+        return false;
     }
-    match file.payload.copy_out(shelf, at, part) {
-        Ok(()) => Ok(()),
-        Err(_) => Err(OpenFault::Device),
+    payload.copy_out(shelf, at, part).is_ok()
+}
+
+// The same of the file `a`.
+fn copies<P: Payload, S: Shelf>(alloc: Global, shelf: &mut S, at: u64, part: &mut [u8]) -> bool {
+    match open::<S, P>(alloc, shelf, "a", 0) {
+        Ok(mut file) => copies_out(&mut file.payload, shelf, file.outline.size, at, part),
+        Err(_) => false,
     }
 }
 
 // Four bytes of a file from a place on.
-fn part_of(alloc: Global, bytes: &[u8], at: u64) -> Result<[u8; 4], OpenFault> {
+fn part_of(alloc: Global, bytes: &[u8], at: u64) -> Result<Option<[u8; 4]>, NoMemory> {
     let mut shelf = SteadyShelf::new(alloc);
     shelf.hold("a", bytes)?;
     let mut part = [0; 4];
-    copy_of_opened::<PagedPayload, SteadyShelf>(alloc, &mut shelf, at, &mut part)?;
-    Ok(part)
+    if copies::<PagedPayload, SteadyShelf>(alloc, &mut shelf, at, &mut part) {
+        Ok(Some(part))
+    } else {
+        Ok(None)
+    }
 }
 
 #[test]
@@ -107,20 +132,22 @@ fn opens(rt: HostRuntime) -> Result<(), Fail> {
     let alloc = rt.alloc();
     for (bytes, header, at) in [(SMALL, LOW_EIGHT, 36), (BIG, HIGH_FOUR, 32)] {
         assert!(rt; is_read(alloc, bytes, header)?);
-        assert_eq!(rt; part_of(alloc, bytes, at)?, [1, 2, 3, 4]);
+        assert_eq!(rt; part_of(alloc, bytes, at), Ok(Some([1, 2, 3, 4])));
     }
     Ok(())
 }
 
 // Whether a file is too large, or isn't there, as the only one of a run or behind others.
-fn is_too_large(alloc: Global, used: u64, sum: u64) -> bool {
+fn is_too_large(alloc: Global, used: u64, sum: u64) -> bool
+    requires { used ≤ most_input_bytes }
+{
     let file: Result<Opened<PagedPayload>, OpenFault> = opened(alloc, SMALL, used);
     matches!(file, Err(OpenFault::TooLarge(found)) if found == sum)
 }
 
 fn is_absent(alloc: Global) -> bool {
     let mut shelf = SteadyShelf::new(alloc);
-    let file: Result<Opened<PagedPayload>, OpenFault> = open(alloc, &mut shelf, "b", 0);
+    let file: Result<Opened<PagedPayload>, OpenFault> = opened_on(alloc, &mut shelf, "b", 0);
     matches!(file, Err(OpenFault::Absent))
 }
 

@@ -39,13 +39,9 @@ fn tell_of_what_is_done(rt: HostRuntime) {
 }
 
 // Whether the lines of the endings are these, one behind another.
-fn are_lines(
-    alloc: Global,
-    endings: Result<Vec<Ending>, NoMemory>,
-    lines: &str,
-) -> Result<bool, NoMemory> {
+fn are_lines(alloc: Global, endings: Vec<Ending>, lines: &str) -> Result<bool, NoMemory> {
     let mut found = Vec::new(alloc);
-    for ending in &endings? {
+    for ending in &endings {
         found.extend_from_slice(&fault_line(alloc, ending)?)?;
     }
     Ok(found.as_slice() == lines.as_bytes())
@@ -148,36 +144,42 @@ fn lacks(alloc: Global) -> Result<Vec<Ending>, NoMemory> {
     Ok(endings)
 }
 
-#[test]
-fn tell_what_ended_a_run(rt: HostRuntime) {
-    let alloc = rt.alloc();
+// Whether the lines of all these endings are as they should be.
+fn are_told(alloc: Global) -> Result<[bool; 6], NoMemory> {
     let runs = "usage\nout of memory\nabsent b.blend\ndevice\nfloat cast Mesh.totco\n";
-    assert_eq!(rt; are_lines(alloc, ends_of_runs(alloc), runs), Ok(true));
     let passed = "limit input bytes 7\nlimit blocks 7\nlimit depth 7\nlimit leaves 7\n\
         limit type bytes 7\nlimit path bytes 7\nlimit name bytes 7\nlimit libraries 7\n\
         limit output blocks 7\nlimit block bytes 7\nlimit file bytes 7\n";
-    assert_eq!(rt; are_lines(alloc, limits(alloc), passed), Ok(true));
     let heads = "bad file a: BadMagic\nbad file a: BadMark 7\nbad file a: BadVersion 249\n\
         bad file a: Truncated 12\nlimit blocks 4194305\n";
-    assert_eq!(rt; are_lines(alloc, faults_of_heads(alloc), heads), Ok(true));
     let catalogues = "bad file a: TwoTypes 169\nout of memory\n\
         bad file a: Overrun Object _pad[2]\nlimit type bytes 65536\n";
-    assert_eq!(rt;
-        are_lines(alloc, faults_of_catalogues(alloc), catalogues),
-        Ok(true)
-    );
     let others = "bad file a: NoCatalogue\nbad file a: TwoCatalogues 36\n\
         bad file a: StrayPlaceholder 12\nbad file a: NotBuilt\n";
-    assert_eq!(rt; are_lines(alloc, other_faults(alloc), others), Ok(true));
     let missing = "missing NoName in a \\x22\\xc3\\xa9\n\
         missing MissingDatablock OBRig in b.blend\nmissing NotStruct 11\n";
-    assert_eq!(rt; are_lines(alloc, lacks(alloc), missing), Ok(true));
-    for (ending, status) in [
-        (Ending::NoCommand, 2),
-        (Ending::NoMemory, 3),
-        (Ending::Device, 5),
-        (Ending::Sink, 10),
-    ] {
-        assert_eq!(rt; status_of(&ending), status);
-    }
+    Ok([
+        are_lines(alloc, ends_of_runs(alloc)?, runs)?,
+        are_lines(alloc, limits(alloc)?, passed)?,
+        are_lines(alloc, faults_of_heads(alloc)?, heads)?,
+        are_lines(alloc, faults_of_catalogues(alloc)?, catalogues)?,
+        are_lines(alloc, other_faults(alloc)?, others)?,
+        are_lines(alloc, lacks(alloc)?, missing)?,
+    ])
+}
+
+// The statuses of some endings.
+fn statuses() -> [u8; 4] {
+    [
+        status_of(&Ending::NoCommand),
+        status_of(&Ending::NoMemory),
+        status_of(&Ending::Device),
+        status_of(&Ending::Sink),
+    ]
+}
+
+#[test]
+fn tell_what_ended_a_run(rt: HostRuntime) {
+    assert_eq!(rt; are_told(rt.alloc()), Ok([true; 6]));
+    assert_eq!(rt; statuses(), [2, 3, 5, 10]);
 }

@@ -5,9 +5,10 @@ ghost use Rattle.bl_selection.specs.declared.draft.Entry.TheVariants.{Source};
 ghost use Rattle.bl_selection.specs.Selection.{draft_of};
 ghost use Rattle.bl_file.specs.Outlines.{IsSound};
 ghost use Rattle.bl_draft.specs.Own.{IsOwnDraft};
+ghost use Rattle.bl_draft.specs.Sources.{AreOpen};
 
 use bl_draft::{Draft, Entry};
-use bl_file::{Outline, WholePayload, open};
+use bl_file::{Opened, Outline, Payload, WholePayload, open};
 use bl_format::{Catalogue, Head, Header};
 use bl_layout::copy_of;
 use bl_num::{Items, NoMemory};
@@ -117,23 +118,17 @@ fn second_group(alloc: Global, outline: &Outline) -> Result<Option<Draft>, NoMem
     Ok(Some(draft))
 }
 
-// Renders the second group of the file `a` as `b`.
-fn store_second_group<S: Shelf>(alloc: Global, shelf: &mut S) -> Option<Totals>
-    requires { S.room shelf.old ≡ None }
+// Stores a draft of an opened file's nodes as `b`.
+fn store<S: Shelf, P: Payload>(
+    alloc: Global,
+    draft: &Draft,
+    files: &mut [Opened<P>],
+    shelf: &mut S,
+) -> Option<Totals>
+    requires files { AreOpen S.Shelf P.Payload shelf.old draft.now files.old }
+    requires staged { S.room shelf.old ≡ None }
 {
-    let file = match open::<S, WholePayload>(alloc, shelf, "a", 0) {
-        Ok(file) => file,
-        Err(_) => return None,
-    };
-    let found = match second_group(alloc, &file.outline) {
-        Ok(found) => found,
-        Err(_) => return None,
-    };
-    let draft = match found {
-        Some(draft) => draft,
-        None => return None,
-    };
-    let totals = match render(alloc, &draft, &mut [file], shelf, "b") {
+    let totals = match render(alloc, draft, files, shelf, "b") {
         Ok(totals) => totals,
         Err(_) => return None,
     };
@@ -143,19 +138,38 @@ fn store_second_group<S: Shelf>(alloc: Global, shelf: &mut S) -> Option<Totals>
     }
 }
 
-#[test]
-fn renders_one_group_of_two(rt: HostRuntime) -> Result<(), NoMemory> {
-    let mut shelf = SteadyShelf::new(rt.alloc());
+// Stores the second group of the file `a` as `b`.
+fn store_second_group<S: Shelf>(alloc: Global, shelf: &mut S) -> Option<Totals>
+    requires { S.room shelf.old ≡ None }
+{
+    let mut files = match open::<S, WholePayload>(alloc, shelf, "a", 0) {
+        Ok(file) => [file],
+        Err(_) => return None,
+    };
+    match second_group(alloc, &files[0].outline) {
+        Ok(Some(draft)) => store(alloc, &draft, &mut files, shelf),
+        _ => None,
+    }
+}
+
+// Whether a name has these bytes.
+fn has(shelf: &SteadyShelf, name: &str, bytes: &[u8]) -> bool {
+    shelf.bytes_of(name) == Some(bytes)
+}
+
+// Whether the second of two groups is stored as it should be.
+fn stores_second_group(alloc: Global) -> Result<bool, NoMemory> {
+    let mut shelf = SteadyShelf::new(alloc);
     shelf.hold("a", TWO_GROUPS)?;
-    let totals = store_second_group(rt.alloc(), &mut shelf);
-    let stored = shelf.bytes_of("b");
-    assert!(rt;
-        totals
-            == Some(Totals {
-                blocks: 2,
-                bytes: 240
-            })
-    );
-    assert!(rt; stored == Some(SECOND_GROUP));
-    Ok(())
+    let totals = store_second_group(alloc, &mut shelf);
+    let expected = Totals {
+        blocks: 2,
+        bytes: 240,
+    };
+    Ok(totals == Some(expected) && has(&shelf, "b", SECOND_GROUP))
+}
+
+#[test]
+fn renders_one_group_of_two(rt: HostRuntime) {
+    assert_eq!(rt; stores_second_group(rt.alloc()), Ok(true));
 }

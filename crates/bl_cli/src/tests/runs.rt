@@ -514,10 +514,13 @@ fn fails(
     text: &str,
     b: &[u8],
 ) -> Result<bool, NoMemory> {
-    let mut scene = quiet(SMALL);
-    scene.failing_calls = failing_calls;
-    scene.takes_effect = takes_effect;
-    scene.failing_puts = failing_puts;
+    let scene = Scene {
+        a: SMALL,
+        b: b"before",
+        failing_calls,
+        takes_effect,
+        failing_puts,
+    };
     leaves(
         alloc,
         &scene,

@@ -9,7 +9,9 @@ use bl_shelf::{
 use std::alloc::Global;
 use std::cell::Cell;
 use std::fmt::Display;
+use std::os::fd::AsFd;
 use std::os::unix::fs::symlink;
+use std::random::RandomSource;
 use std::rt::Files;
 use std::{fs, io};
 
@@ -94,63 +96,83 @@ fn keeps_a_file<S: Shelf>(alloc: Global, shelf: &mut S, name: &str) -> Result<bo
     Ok(new && hidden && stored && kept && still_kept && replaced)
 }
 
-#[test]
-fn keeps_files_in_memory(rt: HostRuntime) {
-    let alloc = rt.alloc();
-    let mut steady = SteadyShelf::new(alloc);
-    assert_eq!(rt; keeps_a_file(alloc, &mut steady, "a"), Ok(true));
-    let mut failing = MemoryShelf::new(alloc, Vec::new(alloc), false);
-    assert_eq!(rt; keeps_a_file(alloc, &mut failing, "a"), Ok(true));
-    assert!(rt; failing.bytes_of("a") == Some(b"yz".as_slice()));
-    assert!(rt; failing.bytes_of("b").is_none());
+// Whether a steady shelf keeps a file so.
+fn steadily_keeps_a_file(alloc: Global) -> Result<bool, ShelfFault> {
+    let mut shelf = SteadyShelf::new(alloc);
+    keeps_a_file(alloc, &mut shelf, "a")
 }
 
-// Copies the first two bytes of `a` to `b`, which takes five calls, and tells which of them fails.
-fn copy<S: Shelf>(shelf: &mut S) -> Result<(), (u64, ShelfFault)>
+// Whether a name has these bytes.
+fn has(shelf: &MemoryShelf, name: &str, bytes: Option<&[u8]>) -> bool {
+    shelf.bytes_of(name) == bytes
+}
+
+// Whether a shelf of which no call fails keeps a file so, and has its last bytes.
+fn keeps_last_bytes(alloc: Global) -> Result<bool, ShelfFault> {
+    let mut shelf = MemoryShelf::new(alloc, Vec::new(alloc), false);
+    let kept = keeps_a_file(alloc, &mut shelf, "a")?;
+    Ok(kept && has(&shelf, "a", Some(b"yz")) && has(&shelf, "b", None))
+}
+
+#[test]
+fn keeps_files_in_memory(rt: HostRuntime) {
+    assert_eq!(rt; steadily_keeps_a_file(rt.alloc()), Ok(true));
+    assert_eq!(rt; keeps_last_bytes(rt.alloc()), Ok(true));
+}
+
+// Copies the first two bytes of `a` to `b`, which takes five calls, and counts those that are done.
+fn copy<S: Shelf>(shelf: &mut S, done: &mut u64) -> Result<(), ShelfFault>
     requires { S.room shelf.old ≡ None }
 {
     let mut part = [0u8; 2];
-    let size = shelf.size("a").map_err(|fault| (0, fault))?;
+    let size = shelf.size("a")?;
+    *done = 1;
     if size < 2 {
-        return Err((9, ShelfFault::Failed));
+        return Err(ShelfFault::Absent);
     }
-    shelf
-        .read_at("a", 0, &mut part)
-        .map_err(|fault| (1, fault))?;
-    shelf.stage("b", 2).map_err(|fault| (2, fault))?;
-    shelf.push(&part).map_err(|fault| (3, fault))?;
-    shelf.commit().map_err(|fault| (4, fault))
+    shelf.read_at("a", 0, &mut part)?;
+    *done = 2;
+    shelf.stage("b", 2)?;
+    *done = 3;
+    shelf.push(&part)?;
+    *done = 4;
+    shelf.commit()?;
+    *done = 5;
+    Ok(())
 }
 
-// What a copy to `b` ends with on a shelf whose call of this number fails, and what `b` has then.
+// What a copy to `b` ends with on a shelf whose call of this number fails, how many calls are done
+// then, and whether `b` has the bytes.
 fn copied(
     alloc: Global,
     failing: u64,
     takes_effect: bool,
-) -> Result<(Result<(), (u64, ShelfFault)>, bool), NoMemory> {
+) -> Result<(Result<(), ShelfFault>, u64, bool), NoMemory> {
     let mut shelf = MemoryShelf::new(alloc, vec![in alloc; failing]?, takes_effect);
     shelf.hold("a", b"abc")?;
-    let ended = copy(&mut shelf);
-    Ok((ended, shelf.bytes_of("b") == Some(b"ab".as_slice())))
+    let mut done = 0;
+    let ended = copy(&mut shelf, &mut done);
+    Ok((ended, done, has(&shelf, "b", Some(b"ab"))))
 }
 
 #[test]
 fn fails_where_it_is_told(rt: HostRuntime) {
+    let failed = Err(ShelfFault::Failed);
     for (failing, takes_effect, want) in [
-        (0, true, (Err((0, ShelfFault::Failed)), false)),
-        (1, true, (Err((1, ShelfFault::Failed)), false)),
-        (2, true, (Err((2, ShelfFault::Failed)), false)),
-        (3, true, (Err((3, ShelfFault::Failed)), false)),
-        (4, true, (Err((4, ShelfFault::Failed)), true)),
-        (4, false, (Err((4, ShelfFault::Failed)), false)),
-        (5, false, (Ok(()), true)),
+        (0, true, (failed, 0, false)),
+        (1, true, (failed, 1, false)),
+        (2, true, (failed, 2, false)),
+        (3, true, (failed, 3, false)),
+        (4, true, (failed, 4, true)),
+        (4, false, (failed, 4, false)),
+        (5, false, (Ok(()), 5, true)),
     ] {
         assert_eq!(rt; copied(rt.alloc(), failing, takes_effect), Ok(want));
     }
 }
 
 // How many names in a folder end as those of parts do.
-fn parts_in<R: Files + Alloc + Clone + Drop>(host: &R, folder: &str) -> io::Result<usize> {
+fn parts_in<R: Files + Alloc + Copy + Drop>(host: &R, folder: &str) -> io::Result<usize> {
     let mut count = 0usize;
     for entry in fs::read_dir(host, folder)? {
         let entry = entry?;
@@ -162,7 +184,7 @@ fn parts_in<R: Files + Alloc + Clone + Drop>(host: &R, folder: &str) -> io::Resu
 }
 
 // Whether a folder has so many parts.
-fn has_parts<R: Files + Alloc + Clone + Drop>(host: &R, folder: &str, wanted: usize) -> bool {
+fn has_parts<R: Files + Alloc + Copy + Drop>(host: &R, folder: &str, wanted: usize) -> bool {
     match parts_in(host, folder) {
         Ok(count) => count == wanted,
         Err(_) => false,
@@ -170,7 +192,7 @@ fn has_parts<R: Files + Alloc + Clone + Drop>(host: &R, folder: &str, wanted: us
 }
 
 // Whether a file is staged as one part beside its name, until it is abandoned.
-fn stages_beside<S: Shelf, R: Files + Alloc + Clone + Drop>(
+fn stages_beside<S: Shelf, R: Files + Alloc + Copy + Drop>(
     host: &R,
     shelf: &mut S,
     folder: &str,
@@ -194,77 +216,128 @@ fn fails_to_read<S: Shelf>(shelf: &mut S, name: &str) -> bool
     past && shelf.size(".") == Err(ShelfFault::Failed)
 }
 
-#[test]
-fn keeps_files_in_the_folder(rt: HostRuntime) {
-    let folder = "kept_by_folder_shelf";
-    let name = "kept_by_folder_shelf/file";
-    let mut shelf = FolderShelf::new(rt.alloc(), rt);
-    assert!(rt; fs::create_dir(&rt, folder).is_ok());
-    assert_eq!(rt; keeps_a_file(rt.alloc(), &mut shelf, name), Ok(true));
-    assert_eq!(rt; stages_beside(&rt, &mut shelf, folder, name), Ok(true));
-    assert!(rt; fails_to_read(&mut shelf, name));
-    assert!(rt; fs::remove_dir_all(&rt, folder).is_ok());
-}
-
-// Whether a file that is named as a part is, and a link, stay as they are.
-fn leaves_others<S: Shelf, R: Files>(
+// Whether a shelf keeps a file so in a folder that is made.
+fn keeps_files<S: Shelf, R: Files + Alloc + Copy + Drop>(
     alloc: Global,
     host: &R,
     shelf: &mut S,
+    folder: &str,
     name: &str,
-    part: &str,
-    link: &str,
 ) -> Result<bool, ShelfFault>
     requires { S.room shelf.old ≡ None }
 {
-    let made = fs::write(host, part, "precious").is_ok() && symlink(host, "file", link).is_ok();
-    store(shelf, name, b"abcdef")?;
-    let kept = holds(alloc, shelf, part, b"precious");
-    store(shelf, link, b"ghijkl")?;
-    let followed = holds(alloc, shelf, name, b"ghijkl");
-    let still_linked = match fs::symlink_metadata(host, link) {
-        Ok(metadata) => metadata.is_symlink(),
-        Err(_) => false,
-    };
-    Ok(made && kept && followed && still_linked)
+    let made = fs::create_dir(host, folder).is_ok();
+    let kept = keeps_a_file(alloc, shelf, name)?;
+    let beside = stages_beside(host, shelf, folder, name)?;
+    Ok(made && kept && beside)
+}
+
+// Whether the shelf of a folder does so, and fails to read what it can't.
+fn folder_keeps_files<R: Files + RandomSource + Alloc + Copy + Drop>(
+    alloc: Global,
+    host: R,
+) -> Result<bool, ShelfFault>
+where
+    R::File: AsFd,
+{
+    let folder = "kept_by_folder_shelf";
+    let name = "kept_by_folder_shelf/file";
+    let mut shelf = FolderShelf::new(alloc, host);
+    let kept = keeps_files(alloc, &host, &mut shelf, folder, name)?;
+    Ok(kept && fails_to_read(&mut shelf, name) && fs::remove_dir_all(&host, folder).is_ok())
 }
 
 #[test]
-fn leaves_others_in_the_folder(rt: HostRuntime) {
+fn keeps_files_in_the_folder(rt: HostRuntime) {
+    assert_eq!(rt; folder_keeps_files(rt.alloc(), rt), Ok(true));
+}
+
+// Whether a name is that of a link.
+fn is_link<R: Files>(host: &R, name: &str) -> bool {
+    match fs::symlink_metadata(host, name) {
+        Ok(metadata) => metadata.is_symlink(),
+        Err(_) => false,
+    }
+}
+
+// Whether a file that is named as a part is, and a link, stay as they are in a folder that is made
+// and removed, and nothing more is left there.
+fn leaves_others<S: Shelf, R: Files + Alloc + Copy + Drop>(
+    alloc: Global,
+    host: &R,
+    shelf: &mut S,
+) -> Result<bool, ShelfFault>
+    requires { S.room shelf.old ≡ None }
+{
     let folder = "others_of_folder_shelf";
     let name = "others_of_folder_shelf/file";
     let part = "others_of_folder_shelf/file.bl-part";
     let link = "others_of_folder_shelf/link";
-    let mut shelf = FolderShelf::new(rt.alloc(), rt);
-    assert!(rt; fs::create_dir(&rt, folder).is_ok());
-    let left = leaves_others(rt.alloc(), &rt, &mut shelf, name, part, link);
-    assert_eq!(rt; left, Ok(true));
-    assert!(rt; has_parts(&rt, folder, 1));
-    assert!(rt; fs::remove_dir_all(&rt, folder).is_ok());
+    let made = fs::create_dir(host, folder).is_ok()
+        && fs::write(host, part, "precious").is_ok()
+        && symlink(host, "file", link).is_ok();
+    store(shelf, name, b"abcdef")?;
+    let kept = holds(alloc, shelf, part, b"precious");
+    store(shelf, link, b"ghijkl")?;
+    let followed = holds(alloc, shelf, name, b"ghijkl") && is_link(host, link);
+    let left = made && kept && followed && has_parts(host, folder, 1);
+    Ok(left && fs::remove_dir_all(host, folder).is_ok())
+}
+
+fn folder_leaves_others<R: Files + RandomSource + Alloc + Copy + Drop>(
+    alloc: Global,
+    host: R,
+) -> Result<bool, ShelfFault>
+where
+    R::File: AsFd,
+{
+    let mut shelf = FolderShelf::new(alloc, host);
+    leaves_others(alloc, &host, &mut shelf)
+}
+
+#[test]
+fn leaves_others_in_the_folder(rt: HostRuntime) {
+    assert_eq!(rt; folder_leaves_others(rt.alloc(), rt), Ok(true));
 }
 
 // Whether nothing can be staged under a name.
 fn refuses<S: Shelf>(shelf: &mut S, name: &str) -> bool
     requires { S.room shelf.old ≡ None }
+    ensures { S.room shelf.new ≡ None }
 {
-    shelf.stage(name, 1) == Err(ShelfFault::Failed)
+    let refused = shelf.stage(name, 1) == Err(ShelfFault::Failed);
+    shelf.abandon();
+    refused
+}
+
+// Whether nothing but a file's name can be staged in a folder that is made and removed.
+fn stages_only_files<S: Shelf, R: Files + Alloc + Copy + Drop>(host: &R, shelf: &mut S) -> bool
+    requires { S.room shelf.old ≡ None }
+{
+    let folder = "staged_by_folder_shelf";
+    let made = fs::create_dir(host, folder).is_ok();
+    let itself = refuses(shelf, folder);
+    let inside = refuses(shelf, "staged_by_folder_shelf/.");
+    let behind = refuses(shelf, "staged_by_folder_shelf/file/");
+    let below = refuses(shelf, "staged_by_folder_shelf/no/file");
+    let none = itself && inside && behind && below && has_parts(host, folder, 0);
+    made && none && fs::remove_dir(host, folder).is_ok()
+}
+
+fn folder_stages_only_files<R: Files + RandomSource + Alloc + Copy + Drop>(
+    alloc: Global,
+    host: R,
+) -> bool
+where
+    R::File: AsFd,
+{
+    let mut shelf = FolderShelf::new(alloc, host);
+    stages_only_files(&host, &mut shelf)
 }
 
 #[test]
 fn stages_only_files_in_the_folder(rt: HostRuntime) {
-    let folder = "staged_by_folder_shelf";
-    assert!(rt; fs::create_dir(&rt, folder).is_ok());
-    for name in [
-        "staged_by_folder_shelf",
-        "staged_by_folder_shelf/.",
-        "staged_by_folder_shelf/file/",
-        "staged_by_folder_shelf/no/file",
-    ] {
-        let mut shelf = FolderShelf::new(rt.alloc(), rt);
-        assert!(rt; refuses(&mut shelf, name));
-    }
-    assert!(rt; has_parts(&rt, folder, 0));
-    assert!(rt; fs::remove_dir(&rt, folder).is_ok());
+    assert!(rt; folder_stages_only_files(rt.alloc(), rt));
 }
 
 // Whether a commit fails where a folder has the name by then.
@@ -300,19 +373,37 @@ fn fails_after_a_change<S: Shelf, R: Files>(
     Ok(size == 3 && changed && failed && holds(alloc, shelf, name, b"abcdef"))
 }
 
-#[test]
-fn leaves_no_part_in_the_folder(rt: HostRuntime) {
+// Whether no part is left where commits fail, in a folder that is made and removed.
+fn leaves_no_part<S: Shelf, R: Files + Alloc + Copy + Drop>(
+    alloc: Global,
+    host: &R,
+    shelf: &mut S,
+) -> Result<bool, ShelfFault>
+    requires { S.room shelf.old ≡ None }
+{
     let folder = "left_by_folder_shelf";
     let name = "left_by_folder_shelf/file";
-    let input = "left_by_folder_shelf/input";
-    let mut shelf = FolderShelf::new(rt.alloc(), rt);
-    assert!(rt; fs::create_dir(&rt, folder).is_ok());
-    assert_eq!(rt; fails_over_a_folder(&rt, &mut shelf, name), Ok(true));
-    assert!(rt; has_parts(&rt, folder, 0));
-    let failed = fails_after_a_change(rt.alloc(), &rt, &mut shelf, name, input);
-    assert_eq!(rt; failed, Ok(true));
-    assert!(rt; has_parts(&rt, folder, 0));
-    assert!(rt; fs::remove_dir_all(&rt, folder).is_ok());
+    let made = fs::create_dir(host, folder).is_ok();
+    let over = fails_over_a_folder(host, shelf, name)? && has_parts(host, folder, 0);
+    let after = fails_after_a_change(alloc, host, shelf, name, "left_by_folder_shelf/input")?;
+    let failed = made && over && after && has_parts(host, folder, 0);
+    Ok(failed && fs::remove_dir_all(host, folder).is_ok())
+}
+
+fn folder_leaves_no_part<R: Files + RandomSource + Alloc + Copy + Drop>(
+    alloc: Global,
+    host: R,
+) -> Result<bool, ShelfFault>
+where
+    R::File: AsFd,
+{
+    let mut shelf = FolderShelf::new(alloc, host);
+    leaves_no_part(alloc, &host, &mut shelf)
+}
+
+#[test]
+fn leaves_no_part_in_the_folder(rt: HostRuntime) {
+    assert_eq!(rt; folder_leaves_no_part(rt.alloc(), rt), Ok(true));
 }
 
 // An output that takes one byte at a time, unless it is given all to write, and counts what it took.

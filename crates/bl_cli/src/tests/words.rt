@@ -1,6 +1,6 @@
 // Which command the words of a command line spell.
 use bl_num::NoMemory;
-use bl_words::{command_of, is_file_word};
+use bl_words::{Command, command_of, is_file_word};
 use std::alloc::Global;
 
 /// Words as a command line gives them.
@@ -12,23 +12,25 @@ pub fn words(alloc: Global, all: &[&str]) -> Result<Vec<String>, NoMemory> {
     Ok(words)
 }
 
-// What words spell, where one blank stands between each two. Their texts stand without quotes.
-fn spelled(alloc: Global, text: &str) -> Result<String, NoMemory> {
+// Words that stand with one blank between each two.
+fn split_words(alloc: Global, text: &str) -> Result<Vec<String>, NoMemory> {
     let mut words = Vec::new(alloc);
     for word in text.split(' ') {
         words.push(String::from_str(alloc, word)?)?;
     }
+    Ok(words)
+}
+
+// What is told of a command.
+fn told(alloc: Global, command: &Option<Command>) -> Result<String, NoMemory> {
+    Ok(format!(in alloc; "{command:?}")?)
+}
+
+// What words spell.
+fn spelled(alloc: Global, text: &str) -> Result<String, NoMemory> {
+    let words = split_words(alloc, text)?;
     let command = command_of(alloc, &words)?;
-    let mut told = format!(in alloc; "{command:?}")?;
-    for (from, to) in [
-        ("Word { text: \"", ""),
-        ("\" }", ""),
-        ("Items { items: [", "["),
-        ("] }", "]"),
-    ] {
-        told = told.replace(alloc, from, to)?;
-    }
-    Ok(told)
+    told(alloc, &command)
 }
 
 fn is_spelled(alloc: Global, text: &str, want: &str) -> Result<bool, NoMemory> {
@@ -41,62 +43,80 @@ fn spell_commands(rt: HostRuntime) {
     for (words, want) in [
         (
             "convert a b",
-            "Some(Convert { input: a, out: b, options: ConvertOptions { like: None, width: None, \
-             order: None, head: None, renames: None } })",
+            "Some(Convert { input: Word { text: \"a\" }, out: Word { text: \"b\" }, options: ConvertOptions { like: None, width: None, order: None, head: None, renames: None } })",
         ),
         (
             "convert a b --renames r --head wide --width 8 --like --like --order little",
-            "Some(Convert { input: a, out: b, options: ConvertOptions { like: Some(--like), \
-             width: Some(Eight), order: Some(Little), head: Some(Wide), renames: Some(r) } })",
+            "Some(Convert { input: Word { text: \"a\" }, out: Word { text: \"b\" }, options: ConvertOptions { like: Some(Word { text: \"--like\" }), width: Some(Eight), order: Some(Little), head: Some(Wide), renames: Some(Word { text: \"r\" }) } })",
         ),
         (
             "convert a b --head classic --order big --width 4",
-            "Some(Convert { input: a, out: b, options: ConvertOptions { like: None, \
-             width: Some(Four), order: Some(Big), head: Some(Classic), renames: None } })",
+            "Some(Convert { input: Word { text: \"a\" }, out: Word { text: \"b\" }, options: ConvertOptions { like: None, width: Some(Four), order: Some(Big), head: Some(Classic), renames: None } })",
         ),
         (
             "append a b c OBx OBx",
-            "Some(Append { into: a, lib: b, out: c, names: [OBx, OBx] })",
+            "Some(Append { into: Word { text: \"a\" }, lib: Word { text: \"b\" }, out: Word { text: \"c\" }, names: Items { items: [Word { text: \"OBx\" }, Word { text: \"OBx\" }] } })",
         ),
         (
             "link a b a .bl-part",
-            "Some(Link { into: a, lib: b, out: a, names: [.bl-part] })",
+            "Some(Link { into: Word { text: \"a\" }, lib: Word { text: \"b\" }, out: Word { text: \"a\" }, names: Items { items: [Word { text: \".bl-part\" }] } })",
         ),
-        ("resolve a b", "Some(Resolve { input: a, out: b })"),
-        ("recount a a", "Some(Recount { input: a, out: a })"),
+        (
+            "resolve a b",
+            "Some(Resolve { input: Word { text: \"a\" }, out: Word { text: \"b\" } })",
+        ),
+        (
+            "recount a a",
+            "Some(Recount { input: Word { text: \"a\" }, out: Word { text: \"a\" } })",
+        ),
         (
             "make 018446744073709551615 0001000000 f",
-            "Some(Make { seed: 18446744073709551615, n: 1000000, out: f })",
+            "Some(Make { seed: 18446744073709551615, n: 1000000, out: Word { text: \"f\" } })",
         ),
-        ("make 0 00 f", "Some(Make { seed: 0, n: 0, out: f })"),
-        ("schema --like", "Some(Schema { input: --like })"),
+        (
+            "make 0 00 f",
+            "Some(Make { seed: 0, n: 0, out: Word { text: \"f\" } })",
+        ),
+        (
+            "schema --like",
+            "Some(Schema { input: Word { text: \"--like\" } })",
+        ),
         (
             "fates a b",
-            "Some(Fates { input: a, cat: b, renames: None })",
+            "Some(Fates { input: Word { text: \"a\" }, cat: Word { text: \"b\" }, renames: None })",
         ),
         (
             "fates a b --renames r",
-            "Some(Fates { input: a, cat: b, renames: Some(r) })",
+            "Some(Fates { input: Word { text: \"a\" }, cat: Word { text: \"b\" }, renames: Some(Word { text: \"r\" }) })",
         ),
-        ("list a", "Some(List { input: a })"),
+        ("list a", "Some(List { input: Word { text: \"a\" } })"),
         (
             "query a OBx a[3].b_1[012345678]->_c",
-            "Some(Query { input: a, name: OBx, path: a[3].b_1[012345678]->_c })",
+            "Some(Query { input: Word { text: \"a\" }, name: Word { text: \"OBx\" }, path: Word { text: \"a[3].b_1[012345678]->_c\" } })",
         ),
-        ("dump a 1", "Some(Dump { input: a, kind: 1 })"),
-        ("dump a 0255", "Some(Dump { input: a, kind: 255 })"),
-        ("edit a b c", "Some(Edit { input: a, script: b, out: c })"),
+        (
+            "dump a 1",
+            "Some(Dump { input: Word { text: \"a\" }, kind: 1 })",
+        ),
+        (
+            "dump a 0255",
+            "Some(Dump { input: Word { text: \"a\" }, kind: 255 })",
+        ),
+        (
+            "edit a b c",
+            "Some(Edit { input: Word { text: \"a\" }, script: Word { text: \"b\" }, out: Word { text: \"c\" } })",
+        ),
         (
             "purge f g other OB fake",
-            "Some(Purge { input: f, out: g, keepers: [Other, Code([79, 66]), Fake] })",
+            "Some(Purge { input: Word { text: \"f\" }, out: Word { text: \"g\" }, keepers: Items { items: [Other, Code([79, 66]), Fake] } })",
         ),
         (
             "unused f !~",
-            "Some(Unused { input: f, keepers: [Code([33, 126])] })",
+            "Some(Unused { input: Word { text: \"f\" }, keepers: Items { items: [Code([33, 126])] } })",
         ),
         (
             "split b b l x y",
-            "Some(Split { input: b, out: b, lib: l, names: [x, y] })",
+            "Some(Split { input: Word { text: \"b\" }, out: Word { text: \"b\" }, lib: Word { text: \"l\" }, names: Items { items: [Word { text: \"x\" }, Word { text: \"y\" }] } })",
         ),
     ] {
         assert_eq!(rt; is_spelled(rt.alloc(), words, want), Ok(true));
