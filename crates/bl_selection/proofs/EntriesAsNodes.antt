@@ -53,7 +53,7 @@ module _ (files : List File) (d : Draft) (views : List View) where
   entry_node-index e (entries.Raw code bytes) named = refl
 
   -- a source entry has the elements of its node
-  length-source_cells : (e i n : ℕ) → length (source_cells files d e i n) ≡ (node_at files i n).count
+  pub length-source_cells : (e i n : ℕ) → length (source_cells files d e i n) ≡ (node_at files i n).count
   length-source_cells e i n =
       let f : File = file_at files i in
       let bytes : List (List ℕ) = node_elements f (node_at files i n) in

@@ -15,6 +15,7 @@ pub mod CellsFit
 pub mod ContentsFit
 pub mod EntriesAsNodes
 pub mod SourcesFit
+pub mod CarriedCells
 pub mod CellViews
 pub mod RawKinds
 pub mod SelectionFits
@@ -30,4 +31,6 @@ pub mod OwnFormNames
 pub mod OwnFormGraph
 pub mod OwnFormLengths
 pub mod OwnForm
+pub mod NumberedTexts
+pub mod CarriedForm
 pub mod Again

@@ -3,6 +3,7 @@
 use Rattle.std.proofs.Common.{◌≡◌, ℕ, ◌+◌, ◌-◌, ◌<◌, Bool, true, false, cond, All, List, [], ◌∷◌, ◌++◌, get_or, Some, None, refl, ap, ◌∙◌, arith}
 use Rattle.std.specs.Prelude.{◌&&◌, ◌==◌, min, nat_lt, map, flat_map}
 use Rattle.std.specs.List.{enumerate_from}
+use Rattle.std.proofs.Math.Path.{fun_ext}
 use Rattle.std.proofs.lemmas.Bool.{eq-eqb, lt-ltb, le-ltb}
 use Rattle.std.proofs.lemmas.List.Elements.{All-head, All-tail}
 use Rattle.std.proofs.lemmas.Slice.Eq.{bytes_eq-Decides}
@@ -19,11 +20,12 @@ use Rattle.bl_format.specs.Nodes.{File}
 use Rattle.bl_format.specs.Graph.{Target, Value, Number, Naming, Cell, cells, struct_cells, leaf_bytes, leaf_value, value_by, node_elements}
 use Rattle.bl_selection.specs.declared.draft.Draft.{Draft}
 use Rattle.bl_selection.specs.Fate.{kept_count, is_char, same_type, zero_of, converted_value, value_from, carried_value}
-use Rattle.bl_selection.specs.Selection.{file_at, node_at, index_under, entry_names, given_or, override_at, overridden_cells, source_cells}
+use Rattle.bl_selection.specs.Selection.{file_at, node_at, index_under, entry_names, source_cells}
+use Rattle.bl_selection.specs.Carried.{StructForm, struct_form, carried_cells}
+use Rattle.bl_selection.proofs.CarriedCells.{source_cells-carried}
 use Rattle.bl_selection.proofs.CarriedFits.{number_meant-in_range}
 use Rattle.bl_selection.proofs.CellsFit.{numbers_below-lt}
 use Rattle.bl_selection.proofs.ValuesBack.{number_meant-bits_of}
-use Rattle.bl_selection.proofs.SourcesFit.{given_or-none, no_override}
 use Rattle.bl_selection.proofs.OwnFormWays.{source_leaf-own}
 
 -- ---- one value
@@ -101,47 +103,26 @@ module _ (f g : ℕ → NamedLeaf → ℕ → Value Target) where
 
 -- ---- the cells of a source entry
 
-each_element : {X Y : Type 0} (f : ℕ → X → Y) (g : X → Y) (q : ℕ) (xs : List X) → ((p : ℕ) (x : X) → f p x ≡ g x)
-    → map (λ (p : ℕ × X). f p.0 p.1) (enumerate_from q xs) ≡ map g xs
-each_element f g q [] same = refl
-each_element f g q (x ∷ xs) same =
-    let first = same q x in
-    let later = each_element f g (q + 1) xs same in
-    λ i. first i ∷ later i
+-- the cells that an element gets in its own form are those that it has
+pub carried_cells-own : (names : Naming Target) (order : Order) (c : Catalogue) (w : Width) (s : ℕ) (bytes : List ℕ) → first_fault c w ≡ None
+    → carried_cells names (struct_form order c w s) (named_leaves c w s) bytes ≡ struct_cells names order c w s bytes
+carried_cells-own names order c w s bytes no_fault =
+    cells-same (λ j y k. carried_value None names order (named_leaves c w s) bytes y k) (λ j y k. leaf_value names order bytes y k) (named_leaves c w s)
+    (λ m z lt j k below. carried-own None names order c w s bytes no_fault m z lt k below)
 
-module _ (files : List File) (d : Draft) (e i n : ℕ) where
-  abbrev f : File
-  f = file_at files i
-
-  abbrev x : Head
-  x = node_at files i n
-
-  abbrev t : ℕ
-  t = index_under d.catalogue f.catalogue x.index
-
-  abbrev names : Naming Target
-  names = entry_names files d e i n
-
-  abbrev from : List NamedLeaf
-  from = named_leaves f.catalogue f.header.width x.index
-
-  element_cells-own : (p : ℕ) (bytes : List ℕ) → d.overrides ≡ [] → first_fault f.catalogue f.header.width ≡ None
-      → named_leaves d.catalogue d.header.width t ≡ from
-      → overridden_cells d e p t (λ (j : ℕ). carried_value None names f.header.order from bytes)
-      ≡ struct_cells names f.header.order f.catalogue f.header.width x.index bytes
-  element_cells-own p bytes none no_fault same =
-      let value : ℕ → NamedLeaf → ℕ → Value Target = λ j y k. given_or y (carried_value None names f.header.order from bytes y k) (override_at d e p j k) in
-      let own : ℕ → NamedLeaf → ℕ → Value Target = λ j y k. leaf_value names f.header.order bytes y k in
-      ap (cells value) same
-      ∙ cells-same value own from
-      (λ m z lt j k below. given_or-none (get_or from m z) (carried_value None names f.header.order from bytes (get_or from m z) k) (override_at d e p j k) (no_override d e p j k none)
-      ∙ carried-own None names f.header.order f.catalogue f.header.width x.index bytes no_fault m z lt k below)
-
-  -- under its own catalogue and width a source entry has the cells of its node, by the entry's names
-  pub source_cells-own : d.overrides ≡ [] → first_fault f.catalogue f.header.width ≡ None
-      → d.catalogue ≡ f.catalogue → d.header.width ≡ f.header.width → index_under d.catalogue f.catalogue x.index ≡ x.index
-      → source_cells files d e i n ≡ map (struct_cells names f.header.order f.catalogue f.header.width x.index) (node_elements f x)
-  source_cells-own none no_fault catalogue width index =
-      let same : named_leaves d.catalogue d.header.width t ≡ from = λ i. named_leaves (catalogue i) (width i) (index i) in
-      each_element (λ p bytes. overridden_cells d e p t (λ (j : ℕ). carried_value None names f.header.order from bytes)) _ 0 (node_elements f x)
-      (λ p bytes. element_cells-own p bytes none no_fault same)
+-- under its own catalogue and width a source entry has the cells of its node, by the entry's names
+pub source_cells-own : (files : List File) (d : Draft) (e i n : ℕ) → d.overrides ≡ []
+    → first_fault (file_at files i).catalogue (file_at files i).header.width ≡ None
+    → d.catalogue ≡ (file_at files i).catalogue → d.header.width ≡ (file_at files i).header.width
+    → index_under d.catalogue (file_at files i).catalogue (node_at files i n).index ≡ (node_at files i n).index
+    → source_cells files d e i n
+    ≡ map (struct_cells (entry_names files d e i n) (file_at files i).header.order (file_at files i).catalogue (file_at files i).header.width (node_at files i n).index) (node_elements (file_at files i) (node_at files i n))
+source_cells-own files d e i n none no_fault catalogue width index =
+    let f : File = file_at files i in
+    let x : Head = node_at files i n in
+    let names : Naming Target = entry_names files d e i n in
+    let own : StructForm = struct_form f.header.order f.catalogue f.header.width x.index in
+    source_cells-carried files d e i n none
+    ∙ (λ k. map (carried_cells names own (named_leaves (catalogue k) (width k) (index k))) (node_elements f x))
+    ∙ ap (λ (cells_of : List ℕ → List Cell). map cells_of (node_elements f x))
+    (fun_ext (λ bytes. carried_cells-own names f.header.order f.catalogue f.header.width x.index bytes no_fault))

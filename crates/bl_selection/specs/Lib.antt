@@ -5,3 +5,5 @@ pub mod Fits
 pub mod GraphFits
 pub mod Committed
 pub mod Drafts
+pub mod EntryKinds
+pub mod Carried
