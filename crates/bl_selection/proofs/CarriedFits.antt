@@ -67,12 +67,13 @@ pub record IsSource (w : Width) (bytes : List ℕ) (x : NamedLeaf) : Type 0 wher
 abbrev pub TargetsFit : Naming Target → Width → Naming Target → Type 0
 TargetsFit names w from = (address : ℕ) → PointerFits names (pointer_bytes w) (from address)
 
-both_true : (a b : Bool) → (a && b) ≡ true → b ≡ true
+-- the second of two tests that both pass
+pub both_true : (a b : Bool) → (a && b) ≡ true → b ≡ true
 both_true true b e = e
 both_true false b e = absurd (cc)
 
 -- an element that is kept is one of the source's
-kept_below : (x y : NamedLeaf) (k : ℕ) → k < kept_count x y → k < x.count
+pub kept_below : (x y : NamedLeaf) (k : ℕ) → k < kept_count x y → k < x.count
 kept_below x y k = go (is_char x && is_char y && nat_lt y.count x.count) (λ e. ltb-true y.count x.count (both_true (is_char x && is_char y) (nat_lt y.count x.count) e))
   where
     go : (b : Bool) → (b ≡ true → y.count < x.count) → k < cond b (y.count - 1) (min x.count y.count) → k < x.count
@@ -80,7 +81,7 @@ kept_below x y k = go (is_char x && is_char y && nat_lt y.count x.count) (λ e. 
     go false less lt = omega (arith, lt)
 
 -- what holds of each element holds of the one that is found
-found-holds : {X : Type 0} (P : X → Type 0) (test : X → Bool) (xs : List X) (x : X) → All P xs → find test xs ≡ Some x → P x
+pub found-holds : {X : Type 0} (P : X → Type 0) (test : X → Bool) (xs : List X) (x : X) → All P xs → find test xs ≡ Some x → P x
 found-holds P test [] x all e = absurd (cc)
 found-holds {X} P test (y ∷ xs) x all e = go (test y) e (found-holds P test xs x (All-tail P y xs all))
   where

@@ -42,6 +42,11 @@ fields-cells : (value : NamedLeaf → ℕ → Value Target) (es : List Slot) →
 fields-cells value [] = refl
 fields-cells value (e ∷ es) = rw (fields-cells value es) refl
 
+-- the fields of some leaves' cells are those of their leaf elements
+pub fields-slots : (value : NamedLeaf → ℕ → Value Target) (xs : List NamedLeaf) → fields (cells (λ j x k. value x k) xs) ≡ map (field_of value) (slots xs)
+unfolding cells
+fields-slots value xs = ap fields (cells_from-slots value 0 xs) ∙ fields-cells value (slots xs)
+
 -- the cells of an element of a struct are those of its leaf elements
 pub struct_cells-slots : (names : Naming Target) (order : Order) (c : Catalogue) (w : Width) (s : ℕ) (bytes : List ℕ)
     → struct_cells names order c w s bytes ≡ map (cell_of (λ x k. leaf_value names order bytes x k)) (slots (named_leaves c w s))
@@ -51,8 +56,7 @@ struct_cells-slots names order c w s bytes = cells_from-slots (λ x k. leaf_valu
 -- and so are its fields
 pub struct_fields-slots : (names : Naming Target) (order : Order) (c : Catalogue) (w : Width) (s : ℕ) (bytes : List ℕ)
     → fields (struct_cells names order c w s bytes) ≡ map (field_of (λ x k. leaf_value names order bytes x k)) (slots (named_leaves c w s))
-struct_fields-slots names order c w s bytes =
-    ap fields (struct_cells-slots names order c w s bytes) ∙ fields-cells (λ x k. leaf_value names order bytes x k) (slots (named_leaves c w s))
+struct_fields-slots names order c w s bytes = fields-slots (λ x k. leaf_value names order bytes x k) (named_leaves c w s)
 
 -- ---- what fits is read again
 

@@ -33,4 +33,7 @@ pub mod OwnFormLengths
 pub mod OwnForm
 pub mod NumberedTexts
 pub mod CarriedForm
+pub mod CarriedValues
+pub mod CarriedLengths
+pub mod FormLength
 pub mod Again

@@ -90,13 +90,13 @@ module _ (names : Naming Target) (order : Order) (c : Catalogue) (w : Width) (s 
 
 -- ---- raw contents
 
--- as many numbers of n bytes as some bytes have pieces
-numbers_long : {X : Type 0} (order : Order) (n : ℕ) (number : X → ℕ) (from : List ℕ → X) (bytes : List ℕ)
-    → length (flat_map (λ x. bytes_of order n (number x)) (map from (pieces n bytes))) ≡ length bytes / n * n
-numbers_long {X} order n number from bytes =
+-- numbers of m bytes, as many as some bytes have pieces of n bytes
+pub numbers_long : {X : Type 0} (order : Order) (n m : ℕ) (number : X → ℕ) (from : List ℕ → X) (bytes : List ℕ)
+    → length (flat_map (λ x. bytes_of order m (number x)) (map from (pieces n bytes))) ≡ length bytes / n * m
+numbers_long {X} order n m number from bytes =
     let xs : List X = map from (pieces n bytes) in
     let many : length xs ≡ length bytes / n = length-map (pieces n bytes) from ∙ length-map (numbers_below (length bytes / n)) _ ∙ length-numbers_below (length bytes / n) in
-    length-flat_map_even (λ (x : X). bytes_of order n (number x)) n xs (λ i d lt. length-bytes_of order n _) ∙ ap (λ (k : ℕ). k * n) many
+    length-flat_map_even (λ (x : X). bytes_of order m (number x)) m xs (λ i d lt. length-bytes_of order m _) ∙ ap (λ (k : ℕ). k * m) many
 
 -- what bytes hold as a kind is written in no more bytes than they are, or in 8
 contents_short : (h : Header) (kind : RawKind) (names : Naming Target) (bytes : List ℕ) → IsCount (length bytes)
@@ -106,10 +106,10 @@ contents_short h raw.Bytes names bytes short = short
 contents_short h (raw.Numbers n) names bytes short =
     let patterns : List ℕ = map (number_of h.order n) (pieces n bytes) in
     let rest : List ℕ = drop (length bytes / n * n) bytes in
-    omega (arith, short, div-mul-le_self (length bytes) n, numbers_long h.order n (λ p. p) (number_of h.order n) bytes, length-append (flat_map (bytes_of h.order n) patterns) rest, length-drop (length bytes / n * n) bytes)
+    omega (arith, short, div-mul-le_self (length bytes) n, numbers_long h.order n n (λ p. p) (number_of h.order n) bytes, length-append (flat_map (bytes_of h.order n) patterns) rest, length-drop (length bytes / n * n) bytes)
 contents_short h raw.Pointers names bytes short =
     let w : ℕ = pointer_bytes h.width in
-    omega (arith, short, div-mul-le_self (length bytes) w, numbers_long h.order w address_of (λ p. names (number_of h.order w p)) bytes)
+    omega (arith, short, div-mul-le_self (length bytes) w, numbers_long h.order w w address_of (λ p. names (number_of h.order w p)) bytes)
 contents_short h raw.Pair names bytes short =
     let first : ℕ = number_of h.order 4 bytes in
     let second : ℕ = number_of h.order 4 (drop 4 bytes) in

@@ -8,7 +8,6 @@ use Rattle.bl_num.specs.declared.number.Form.{Form}
 use Rattle.bl_num.specs.Numbers.{bytes_of, number_of}
 use Rattle.bl_num.proofs.BytesOf.{length-bytes_of}
 use Rattle.bl_format.specs.declared.file.Header.{Header}
-use Rattle.bl_format.specs.declared.layout.Kind.TheVariants as kinds
 use Rattle.bl_format.specs.declared.raw.RawKind.{RawKind}
 use Rattle.bl_format.specs.declared.raw.RawKind.TheVariants as raw
 use Rattle.bl_format.specs.declared.raw.View.{View}
@@ -41,18 +40,31 @@ module _ (P : RawKind → Type 0) (bytes : P raw.Bytes) (numbers : (n : ℕ) →
 pub raw_kind-bytes : (files : List File) (d : Draft) (code : List ℕ) (len n : ℕ) → HasBytes (raw_kind (selection_views files d) code len n)
 raw_kind-bytes files d code len n = entry_kind-such HasBytes tt (λ k. omega arith) tt files d code len n (λ long. tt)
 
+-- a payload of so many bytes can be of a kind
+abbrev pub HasRoomFor : ℕ → RawKind → Type 0
+HasRoomFor len raw.Bytes = Unit {0}
+HasRoomFor len (raw.Numbers n) = Unit {0}
+HasRoomFor len raw.Pointers = Unit {0}
+HasRoomFor len raw.Pair = pair_length ≤ len
+
+-- the kind of a raw entry is one of which its payload can be
+pub raw_kind-room : (files : List File) (d : Draft) (code : List ℕ) (len n : ℕ) → HasRoomFor len (raw_kind (selection_views files d) code len n)
+raw_kind-room files d code len n =
+    entry_kind-such (HasRoomFor len) tt (λ k. tt) tt files d code len n (λ long. leb-true pair_length len long)
+
 -- ---- the kind again
 
 module _ (h : Header) (names : Naming Target) (form : Form) (bytes : List ℕ) where
   -- how long contents are that are read as a kind and written again
-  abbrev again : RawKind → ℕ
+  abbrev pub again : RawKind → ℕ
   again kind = length (contents_written h kind (contents_by kind names form bytes))
 
   bytes_again : again raw.Bytes ≡ length bytes
   unfolding contents_written contents_by
   bytes_again = refl
 
-  pair_again : 8 ≤ length bytes → again raw.Pair ≡ length bytes
+  -- a pair that is long enough is as long as it was
+  pub pair_again : 8 ≤ length bytes → again raw.Pair ≡ length bytes
   unfolding contents_written contents_by
   pair_again enough =
       let a : List ℕ = bytes_of h.order 4 (number_of form.order 4 bytes) in

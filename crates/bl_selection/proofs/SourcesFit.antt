@@ -83,6 +83,14 @@ element_long bytes size count k within lt =
     let more : suc k * size ≤ count * size = mul-le-mul_right size lt in
     length-take-le size (drop (k * size) bytes) (omega (arith, more, within, length-drop (k * size) bytes))
 
+-- each of its elements has as many bytes as the struct
+pub node_elements-long : (f : File) (x : Head) → HoldsElements f x → All (λ bytes. length bytes ≡ struct_length f.catalogue x.index) (node_elements f x)
+node_elements-long f x holds =
+    let size : ℕ = struct_length f.catalogue x.index in
+    let bytes : List ℕ = payload f.header f.bytes x in
+    All-map (λ (b : List ℕ). length b ≡ size) (λ (k : ℕ). part bytes (k * size) size) (numbers_below x.count)
+    (All-weaker (λ k. k < x.count) (λ k. length (part bytes (k * size) size) ≡ size) (λ k lt. element_long bytes size x.count k holds lt) (numbers_below x.count) (numbers_below-lt x.count))
+
 -- the bytes of an element: as many as the struct has, each below 256
 pub record IsElement (size : ℕ) (bytes : List ℕ) : Type 0 where
   pub long : length bytes ≡ size

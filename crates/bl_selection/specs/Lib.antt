@@ -7,3 +7,4 @@ pub mod Committed
 pub mod Drafts
 pub mod EntryKinds
 pub mod Carried
+pub mod OutputSizes
