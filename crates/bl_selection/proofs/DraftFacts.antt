@@ -4,14 +4,16 @@ use Rattle.std.specs.Prelude.{◌==◌, ◌&&◌, nat_le, nat_lt, zip}
 use Rattle.std.specs.List.{list_all, enumerate_from, position_from}
 use Rattle.std.proofs.lemmas.Bool.{ltb-true, leb-true, ne_eqb, cases_lt, and_parts}
 use Rattle.std.proofs.lemmas.List.FromFn.{length-enumerate_from, get_or-enumerate_from}
-use Rattle.std.proofs.lemmas.List.Elements.{All-head, All-tail, All-filter, All-weaker}
+use Rattle.std.proofs.lemmas.List.Elements.{All-head, All-tail, All-map, All-filter, All-weaker}
 use Rattle.std.proofs.lemmas.List.Sums.{AllPass-from_list_all}
+use Rattle.bl_format.specs.declared.file.Header.{Header}
+use Rattle.bl_format.specs.declared.catalogue.Catalogue.{Catalogue}
 use Rattle.bl_format.specs.Words.{numbers_below, first_place}
 use Rattle.bl_format.specs.Nodes.{File}
 use Rattle.bl_selection.specs.declared.draft.Draft.{Draft}
 use Rattle.bl_selection.specs.declared.draft.Entry.{Entry}
 use Rattle.bl_selection.specs.declared.draft.Entry.TheVariants as entries
-use Rattle.bl_selection.specs.Selection.{selection_views}
+use Rattle.bl_selection.specs.Selection.{selection_views, kept_nodes, whole_selection}
 use Rattle.bl_selection.specs.Drafts.{kept_in_group, is_good_source, has_good_images, is_good_entry, is_well_formed}
 use Rattle.bl_selection.proofs.CellsFit.{numbers_below-lt}
 
@@ -132,3 +134,7 @@ pub source-named : (x : Entry) → IsSource0 x → (n : ℕ) × (x ≡ entries.S
 source-named (entries.Source i n) is = (n, ap (λ (k : ℕ). entries.Source k n) is)
 source-named (entries.Made m) is = absurd is
 source-named (entries.Raw code bytes) is = absurd is
+
+-- the selection of all nodes of a file has nodes of the first file alone
+pub whole-sources : (f : File) (h : Header) (c : Catalogue) → All IsSource0 (whole_selection f h c).entries
+whole-sources f h c = All-map IsSource0 (entries.Source 0) (kept_nodes c f) (λ i d lt. refl)

@@ -31,6 +31,7 @@ pub mod OwnFormNames
 pub mod OwnFormGraph
 pub mod OwnFormLengths
 pub mod OwnForm
+pub mod NothingClashes
 pub mod NumberedTexts
 pub mod CarriedForm
 pub mod CarriedValues

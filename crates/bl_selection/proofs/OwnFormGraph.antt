@@ -75,7 +75,8 @@ index_within c x s none is =
     let enough : nat_le (length c.structs) x.index ≡ false = second_passes (x.index == 0) (nat_le (length c.structs) x.index) (BadStruct x.at) (cond (nat_lt x.len (x.count * struct_length c x.index)) (Some (ShortBlock x.at)) None) none some in
     omega (arith, leb-false (length c.structs) x.index enough, is)
 
-index-own : (c : Catalogue) (x : Head) → CanBeRead c → node_fault c x ≡ None → index_under c c x.index ≡ x.index
+-- the number of a node's struct is that of its name
+pub index-own : (c : Catalogue) (x : Head) → CanBeRead c → node_fault c x ≡ None → index_under c c x.index ≡ x.index
 index-own c x read none = by_number x.index refl
   where
     by_number : (s : ℕ) → x.index ≡ s → index_under c c s ≡ s
