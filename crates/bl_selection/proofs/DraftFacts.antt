@@ -135,6 +135,18 @@ source-named (entries.Source i n) is = (n, ap (λ (k : ℕ). entries.Source k n)
 source-named (entries.Made m) is = absurd is
 source-named (entries.Raw code bytes) is = absurd is
 
+-- an entry is one of the nodes of the first file
+abbrev pub IsNode0 : File → Entry → Type 0
+IsNode0 f (entries.Source i n) = (i ≡ 0) × (n < length f.nodes)
+IsNode0 f (entries.Made m) = ⊥
+IsNode0 f (entries.Raw code bytes) = ⊥
+
+-- in a well-formed draft of nodes of that file all entries are
+pub nodes-within : (f : File) (d : Draft) → is_well_formed (f ∷ []) d ≡ true → All IsSource0 d.entries → All (IsNode0 f) d.entries
+nodes-within f d formed sources e other lt =
+    let source = source-named (get_or d.entries e other) (sources e other lt) in
+    subst (IsNode0 f) (sym source.1) (refl, source-within f d e source.0 other formed lt source.1)
+
 -- the selection of all nodes of a file has nodes of the first file alone
 pub whole-sources : (f : File) (h : Header) (c : Catalogue) → All IsSource0 (whole_selection f h c).entries
 whole-sources f h c = All-map IsSource0 (entries.Source 0) (kept_nodes c f) (λ i d lt. refl)

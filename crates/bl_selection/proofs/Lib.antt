@@ -37,4 +37,6 @@ pub mod CarriedForm
 pub mod CarriedValues
 pub mod CarriedLengths
 pub mod FormLength
+pub mod OwnFormSizes
+pub mod RebuiltSizes
 pub mod Again
