@@ -43,7 +43,7 @@ accepted-same b f g first second =
 -- ---- one conversion with no option
 
 -- no file is there where no bytes are given
-none_given : (like : Option File) → option_map (λ (f : File). f.bytes) like ≡ None → like ≡ None
+pub none_given : (like : Option File) → option_map (λ (f : File). f.bytes) like ≡ None → like ≡ None
 none_given None is = refl
 none_given (Some f) is = cc
 

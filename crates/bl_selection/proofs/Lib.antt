@@ -32,6 +32,8 @@ pub mod OwnFormGraph
 pub mod OwnFormLengths
 pub mod OwnForm
 pub mod NothingClashes
+pub mod AlikeLeaves
+pub mod AlikeGraphs
 pub mod NumberedTexts
 pub mod CarriedForm
 pub mod CarriedValues
@@ -40,3 +42,5 @@ pub mod FormLength
 pub mod OwnFormSizes
 pub mod RebuiltSizes
 pub mod Again
+pub mod RewidthGraph
+pub mod ConvertedForm
