@@ -22,7 +22,7 @@ use Rattle.bl_writer.specs.declared.output.Output.{Output}
 use Rattle.bl_writer.specs.Outputs.{IsOutput, IsFormSize, ArePlans, block_bytes, output_form, output_size, selection_form}
 use Rattle.bl_writer.specs.Lengths.{size_by}
 use Rattle.bl_writer.specs.Rendering.{end_written, staged_as}
-use Rattle.bl_writer.proofs.NumberedTexts.{texts-same}
+use Rattle.bl_selection.proofs.NumberedTexts.{texts-same}
 use Rattle.bl_writer.proofs.Renderings.{IsHeldAnd-both}
 use Rattle.bl_writer.proofs.SelectionForm.{selection_form-parts}
 

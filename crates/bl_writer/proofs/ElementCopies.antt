@@ -20,7 +20,7 @@ use Rattle.bl_writer.specs.declared.plans.Plan.{Plan}
 use Rattle.bl_writer.specs.Plans.{IsPlanOf, planned, all_planned}
 use Rattle.bl_writer.specs.Payloads.{struct_image, elements_image}
 use Rattle.bl_writer.proofs.Overlays.{length-part}
-use Rattle.bl_writer.proofs.NumberedTexts.{texts-same}
+use Rattle.bl_selection.proofs.NumberedTexts.{texts-same}
 use Rattle.bl_writer.proofs.LaidOutCopies.{IsThere, slots_there, value_fills}
 
 -- what numbers give, one number more

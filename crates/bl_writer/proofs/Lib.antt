@@ -17,10 +17,10 @@ pub mod OutputForm
 pub mod BlockLengths
 mod DraftForm
 mod FaultLemmas
-pub mod NumberedTexts
-pub mod SelectionKinds
 pub mod PayloadsWritten
 pub mod EntryNames
 pub mod EntrySources
 pub mod EntryBlocks
+pub mod KindsAgree
+pub mod CarriedOutput
 pub mod SelectionForm
