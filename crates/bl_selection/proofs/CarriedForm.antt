@@ -14,14 +14,14 @@ use Rattle.bl_format.specs.Words.{numbers_below, zeros}
 use Rattle.bl_format.specs.Blocks.{head_size, header_written}
 use Rattle.bl_format.specs.Layout.{named_leaves, struct_length, struct_name, struct_number}
 use Rattle.bl_format.specs.Nodes.{File, payload, raw_kind}
-use Rattle.bl_format.specs.Graph.{Target, Naming, Fields, Cell, Node, Raw, Struct, fields, node_elements, contents_by, form_of}
+use Rattle.bl_format.specs.Graph.{Target, Naming, Fields, Cell, Node, Raw, Struct, fields, node_elements, contents_by, views_of, form_of}
 use Rattle.bl_selection.specs.declared.draft.Draft.{Draft}
 use Rattle.bl_selection.specs.declared.draft.Entry.{Entry}
 use Rattle.bl_selection.specs.declared.draft.Entry.TheVariants as entries
-use Rattle.bl_selection.specs.Selection.{file_at, node_at, index_under, entry_at, entry_names, entry_group, source_cells, entry_cells, entry_node, selection_views, selection_graph}
+use Rattle.bl_selection.specs.Selection.{file_at, node_at, index_under, entry_at, entry_names, entry_group, source_cells, entry_cells, entry_views, entry_node, selection_views, selection_graph}
 use Rattle.bl_selection.specs.Written.{address_of, element_written, block_written, node_written, catalogue_block, written_form}
 use Rattle.bl_selection.specs.EntryKinds.{entry_kind, draft_kinds}
-use Rattle.bl_selection.specs.Carried.{struct_form, carried_cells, carried_elements, carried_contents, carried_block, IsSourceNode, entry_block, draft_block}
+use Rattle.bl_selection.specs.Carried.{struct_form, carried_cells, carried_elements, carried_contents, carried_block, carried_views, IsSourceNode, entry_block, draft_block}
 use Rattle.bl_selection.proofs.CarriedCells.{source_cells-carried}
 use Rattle.bl_selection.proofs.CellViews.{index_under-some}
 use Rattle.bl_selection.proofs.EntriesAsNodes.{length-source_cells}
@@ -56,6 +56,18 @@ module _ (files : List File) (d : Draft) (views : List View) (e i n : ℕ) where
       → node ≡ Struct x.code (struct_name f.catalogue x.index) (entry_group files d e) (map fields (source_cells files d e i n))
   unfolding entry_node entry_cells
   entry_struct is = rw is refl
+
+  -- what the pointers of an entry say is what those of its node say, once they are carried
+  pub entry_views-carried : d.overrides ≡ [] → entry_views files d e (entries.Source i n) ≡ carried_views names f d.header d.catalogue x
+  unfolding entry_cells
+  entry_views-carried none = by_raw (x.index == 0)
+    where
+      carried : List ℕ → List Cell
+      carried = carried_cells names (struct_form f.header.order f.catalogue f.header.width x.index) (named_leaves d.catalogue d.header.width (index_under d.catalogue f.catalogue x.index))
+
+      by_raw : (b : Bool) → flat_map (views_of d.catalogue) (cond b [] (source_cells files d e i n)) ≡ cond b [] (flat_map (λ bytes. views_of d.catalogue (carried bytes)) (node_elements f x))
+      by_raw true = refl
+      by_raw false = ap (flat_map (views_of d.catalogue)) (source_cells-carried files d e i n none) ∙ flat_map-map (views_of d.catalogue) carried (node_elements f x)
 
   -- ---- its block
 

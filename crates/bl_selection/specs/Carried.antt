@@ -8,10 +8,11 @@ use Rattle.bl_format.specs.declared.file.Head.{Head}
 use Rattle.bl_format.specs.declared.catalogue.Catalogue.{Catalogue}
 use Rattle.bl_format.specs.declared.raw.RawKind.{RawKind}
 use Rattle.bl_format.specs.declared.raw.RawKind.TheVariants.{Bytes}
+use Rattle.bl_format.specs.declared.raw.View.{View}
 use Rattle.bl_format.specs.Blocks.{head_written}
 use Rattle.bl_format.specs.Layout.{NamedLeaf, named_leaves, struct_length}
 use Rattle.bl_format.specs.Nodes.{File, payload}
-use Rattle.bl_format.specs.Graph.{Target, Naming, Cell, cells, fields, node_elements, contents_by, form_of, raw_length}
+use Rattle.bl_format.specs.Graph.{Target, Naming, Cell, cells, fields, node_elements, contents_by, views_of, form_of, raw_length}
 use Rattle.bl_selection.specs.declared.draft.Draft.{Draft}
 use Rattle.bl_selection.specs.declared.draft.Entry.{Entry}
 use Rattle.bl_selection.specs.declared.draft.Entry.TheVariants as entries
@@ -61,7 +62,14 @@ abbrev pub carried_payload : Naming Target → File → Header → Catalogue →
 carried_payload names f h c kind x =
     if x.index == 0 then carried_contents names f h kind x else carried_elements names f h c x
 
--- how many bytes that has
+-- what the pointers of a source's node say, once they are carried; a raw node says nothing
+abbrev pub carried_views : Naming Target → File → Header → Catalogue → Head → List View
+carried_views names f h c x =
+    let from = struct_form f.header.order f.catalogue f.header.width x.index in
+    let leaves = named_leaves c h.width (index_under c f.catalogue x.index) in
+    if x.index == 0 then [] else flat_map (λ bytes. views_of c (carried_cells names from leaves bytes)) (node_elements f x)
+
+-- how many bytes its payload has
 abbrev pub carried_length : File → Header → Catalogue → RawKind → Head → ℕ
 carried_length f h c kind x =
     if x.index == 0
