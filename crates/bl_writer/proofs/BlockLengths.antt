@@ -6,15 +6,14 @@ use Rattle.std.proofs.lemmas.List.{length-append, length-replicate}
 use Rattle.std.proofs.Math.Nat.{le-max_left, le-max_right}
 use Rattle.bl_num.specs.declared.number.Width.{Width}
 use Rattle.bl_num.specs.declared.number.Width.TheVariants.{Four, Eight}
-use Rattle.bl_num.specs.Numbers.{pointer_bytes, bytes_of}
-use Rattle.bl_num.proofs.BytesOf.{length-bytes_of}
+use Rattle.bl_num.specs.Numbers.{pointer_bytes}
 use Rattle.bl_format.specs.declared.file.Header.{Header}
 use Rattle.bl_format.specs.declared.file.Head.{Head}
 use Rattle.bl_format.specs.Words.{zeros}
-use Rattle.bl_format.specs.Blocks.{head_size, code_meant, code_written, head_written}
-use Rattle.bl_format.proofs.StepBack.{code_written_back}
+use Rattle.bl_format.specs.Blocks.{head_size, head_written}
 use Rattle.bl_selection.specs.Selection.{no_head}
 use Rattle.bl_selection.specs.Written.{block_written}
+pub use Rattle.bl_selection.proofs.CarriedLengths.{length-head_written}
 use Rattle.bl_writer.specs.declared.output.Output.{Output}
 use Rattle.bl_writer.specs.Outputs.{IsOutput, output_head, output_kind, written_length, output_length, outputs_length}
 use Rattle.bl_writer.specs.Lengths.{blocks_length}
@@ -67,18 +66,6 @@ outputs_length-mono o k (suc n) le = elim (cases_lt n k) [
 ]
 
 -- ---- what is written
-
--- a head that can be written has its size
-pub length-head_written : (h : Header) (x : Head) → length x.code ≡ 4 → code_meant x.code ≡ x.code → length (head_written h x) ≡ head_size h
-unfolding head_written
-length-head_written h x len meant =
-    let code = code_written h.order x.code in
-    let w = pointer_bytes h.width in
-    let a = bytes_of h.order 4 x.len in
-    let b = bytes_of h.order w x.address in
-    let c = bytes_of h.order 4 x.index in
-    let d = bytes_of h.order 4 x.count in
-    omega (arith, (code_written_back h.order x.code len meant).length, length-append (((code ++ a) ++ b) ++ c) d, length-append ((code ++ a) ++ b) c, length-append (code ++ a) b, length-append code a, length-bytes_of h.order 4 x.len, length-bytes_of h.order w x.address, length-bytes_of h.order 4 x.index, length-bytes_of h.order 4 x.count)
 
 -- the block of a catalogue that is written so has its head's size and its own length
 pub length-catalogue : (h : Header) (written : List ℕ) → length (block_written h (codes "DNA1") 0 0 1 written) ≡ head_size h + length written
