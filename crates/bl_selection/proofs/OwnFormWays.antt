@@ -133,6 +133,12 @@ step_tells : (c : Catalogue) (s k e : ℕ) → StepTells (member_step c s k e)
 unfolding name_of
 step_tells c s k e = key_tells (name_entry c (member_entry c s k).name_number)
 
+-- two members with one key have one identifier
+pub same_key-same_identifier : (c : Catalogue) (s j k : ℕ) → (name_of c s j).key ≡ (name_of c s k).key
+    → (name_of c s j).identifier ≡ (name_of c s k).identifier
+same_key-same_identifier c s j k same =
+    step_tells c s j 0 ∙ ap (λ key. identifier_in key) same ∙ sym (step_tells c s k 0)
+
 member_ways : (inside : ℕ → List NamedLeaf) (c : Catalogue) (w : Width) (s k : ℕ)
     → ((t : ℕ) → All WayTells (inside t)) → All WayTells (member_leaves inside c w s k)
 unfolding member_leaves
