@@ -1,12 +1,12 @@
 ghost use Rattle.std.specs.Prelude.{◌≡◌, ◌<◌, IfOk, length};
 ghost use Rattle.bl_format.specs.Schema.{CanBeRead};
 ghost use Rattle.bl_format.specs.Layout.{type_entry};
-ghost use Rattle.bl_draft.specs.Names.{HasStructs, Learns, shared_structs};
+ghost use Rattle.bl_draft.specs.Names.{shared_structs};
 
 use bl_format::{Catalogue, StructEntry};
 use bl_num::NoMemory;
+use bl_plan::known_structs;
 use std::alloc::Global;
-use std::collections::BTreeMap;
 
 /// For each struct of a catalogue, whether another one has it at a number other than 0.
 pub fn shared_structs(
@@ -28,19 +28,6 @@ pub fn shared_structs(
     Ok(shared)
 }
 
-// The numbers of a catalogue's structs by their names. A file chooses its names, so they are kept
-// in order: in a hashed table it could choose ones that collide.
-fn known_structs(alloc: Global, catalogue: &Catalogue) -> Result<BTreeMap<&[u8], u32>, NoMemory>
-    requires { CanBeRead catalogue.now }
-    ensures { IfOk result (HasStructs catalogue.now) }
-{
-    let mut known: BTreeMap<&[u8], u32> = BTreeMap::new(alloc);
-    for (number, entry) in catalogue.structs.as_slice().iter().enumerate() {
-        learn(&mut known, name_of(catalogue, entry), number as u32)?;
-    }
-    Ok(known)
-}
-
 // The name of a struct.
 fn name_of<'a>(catalogue: &'a Catalogue, entry: &StructEntry) -> &'a [u8]
     requires { entry.now.type_number < length catalogue.now.types }
@@ -48,19 +35,4 @@ fn name_of<'a>(catalogue: &'a Catalogue, entry: &StructEntry) -> &'a [u8]
 {
     let types = catalogue.types.as_slice();
     types[usize::from(entry.type_number)].name.as_slice()
-}
-
-// Gives a name a number, unless it has one.
-fn learn<'a>(
-    known: &mut BTreeMap<&'a [u8], u32>,
-    name: &'a [u8],
-    number: u32,
-) -> Result<(), NoMemory>
-    ensures { IfOk result (λ _. Learns known.old known.new name.now number) }
-{
-    if known.contains_key(&name) {
-        return Ok(());
-    }
-    known.insert(name, number)?;
-    Ok(())
 }

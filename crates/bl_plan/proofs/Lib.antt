@@ -1,1 +1,2 @@
-pub mod KeySearch
+pub mod NameLemmas
+pub mod Found

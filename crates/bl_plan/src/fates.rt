@@ -1,16 +1,26 @@
-ghost use Rattle.std.specs.Prelude.{◌≡◌, ◌<◌, ◌==◌, IfSome, length};
+ghost use Rattle.std.specs.Prelude.{◌≡◌, ◌<◌, ◌==◌, length};
 ghost use Rattle.bl_format.specs.Layout.{member_count, member_size, struct_name};
-ghost use Rattle.bl_selection.specs.Fate.{fate_of, member_of_key, pair_fate};
+ghost use Rattle.bl_selection.specs.Fate.{fate_of, pair_fate};
+ghost use Rattle.bl_plan.specs.Names.{HasMembers};
 
 use crate::contents::{fate_by_content, fate_by_count};
 use bl_layout::Layout;
 use bl_sdna::{member_type_length, member_type_name};
 use bl_selection::Fate;
+use std::collections::BTreeMap;
 
 /// What becomes of a member of struct `t`: by the member of its key in struct `s`, which has the same
-/// name.
+/// name and the members `known`.
 #[tactic(auto, unfolding(bl_selection::specs::Fate::fate_of))]
-pub fn member_fate(from: &Layout, s: u32, to: &Layout, t: u32, member: u32) -> Fate
+pub fn member_fate<'a>(
+    from: &'a Layout,
+    s: u32,
+    known: &BTreeMap<&'a [u8], u32>,
+    to: &'a Layout,
+    t: u32,
+    member: u32,
+) -> Fate
+    requires known { HasMembers from.now.catalogue s known.now }
     requires s { s < length from.now.catalogue.structs }
     requires t { t < length to.now.catalogue.structs }
     requires name { struct_name from.now.catalogue s ≡ struct_name to.now.catalogue t }
@@ -18,27 +28,13 @@ pub fn member_fate(from: &Layout, s: u32, to: &Layout, t: u32, member: u32) -> F
     ensures { result
         ≡ fate_of from.now.catalogue from.now.width s to.now.catalogue to.now.width t member }
 {
-    let Some(source) = member_of_key(from, s, to.member_key(t, member)) else {
+    let Some(source) = known.get(&to.member_key(t, member)).copied() else {
         return Fate::Fresh;
     };
     if is_empty(from, s, source) || is_empty(to, t, member) {
         return Fate::Fresh;
     }
     pair_fate(from, s, source, to, t, member)
-}
-
-// The member of a key.
-fn member_of_key(layout: &Layout, s: u32, key: &[u8]) -> Option<u32>
-    requires { s < length layout.now.catalogue.structs }
-    ensures is { result ≡ member_of_key layout.now.catalogue s key.now }
-    ensures there { IfSome result (λ member. member < member_count layout.now.catalogue s) }
-{
-    for member in 0..layout.member_count(s) {
-        if layout.member_key(s, member) == key {
-            return Some(member);
-        }
-    }
-    None
 }
 
 // Whether a member has no bytes.

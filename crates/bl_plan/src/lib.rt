@@ -1,8 +1,11 @@
-//! What becomes of the members of a struct under another catalogue.
+//! What becomes of the members of a struct under another catalogue: structs meet by name, and members
+//! by key.
 #![tactic(auto)]
 
 mod contents;
 mod fates;
+mod names;
 
 pub use bl_selection::Fate;
 pub use fates::member_fate;
+pub use names::{known_members, known_structs};

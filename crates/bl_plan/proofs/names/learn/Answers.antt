@@ -1,7 +1,7 @@
 use Rattle.std.proofs.Common.{sym, ◌∙◌}
 use Rattle.std.proofs.lemmas.Map.Text.{btree_map_updates_str}
-use Rattle.bl_draft.proofs.NameLemmas.{learns_new}
-use Rattle.bl_draft.proofs.names.learn.Goals as goal
+use Rattle.bl_plan.proofs.NameLemmas.{learns_new}
+use Rattle.bl_plan.proofs.names.learn.Goals as goal
 
 pub returns : goal.returns
 returns c =
