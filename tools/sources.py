@@ -1,5 +1,6 @@
 """What the tools of this folder share: the crates, and the comments of their definitions and laws."""
 import pathlib
+import re
 
 TOP = pathlib.Path(__file__).resolve().parent.parent
 
@@ -30,6 +31,12 @@ def comment(lines):
 def comment_above(lines, at):
     """The comment over a line, as one line."""
     first = at
-    while first > 0 and lines[first - 1].startswith("--"):
+    while first > 0 and lines[first - 1].lstrip().startswith("--"):
         first -= 1
-    return comment(lines[first:at])
+    return comment([line.lstrip() for line in lines[first:at]])
+
+
+def is_field(lines, at):
+    """Whether a line is a field of a record."""
+    head = next((line for line in reversed(lines[:at]) if line[:1].strip()), "")
+    return lines[at].startswith(" ") and re.match(r"(pub )?record ", head) is not None

@@ -16,7 +16,7 @@ use Rattle.bl_run.specs.Obeying.{own_text, with_files}
 
 -- ---- the status
 
--- 0, or 2 to 10; 2 comes only where the words spell no command, and then nothing else but 3
+-- 0, or 2 to 10; 2 comes only where the words spell no command that this program has, and then nothing else but 3
 pub record IsStatus (command : Option Command) (status : ℕ) : Type 0 where
   pub bounds : (status ≡ 0) ⊎ ((2 ≤ status) × (status ≤ 10))
   pub usage : status ≡ 2 → command ≡ None

@@ -42,9 +42,9 @@ fn conclude<O: Sink>(alloc: Global, done: Result<(), Ending>, out: &mut O) -> u8
 }
 
 /// Does what the words spell, and answers the status of the process: 0 where it is done; 2 where
-/// the words spell no command; 3 where memory is wanted; 4 where the input isn't held; 5 where a
-/// device of the shelf failed; 6 where the input is refused; 9 where it passes a limit; 10 where
-/// the sink failed.
+/// the words spell no command that this program has; 3 where memory is wanted; 4 where an input
+/// isn't held; 5 where a device of the shelf failed; 6 where an input is refused; 9 where it passes
+/// a limit; 10 where the sink failed.
 ///
 /// The line of a conversion is put before the output is committed. A run that ends with another
 /// status than 0 and 10 puts a line of what ended it; after 3, and where the sink fails, a part of
@@ -88,7 +88,7 @@ pub fn run<S: Shelf, O: Sink>(alloc: Global, words: &[String], shelf: &mut S, ou
         (O.faults out.old) (O.faults out.new) (O.written out.old) (O.written out.new)) }
 
     // The same of a shelf that tells nothing: which files are staged and committed, whom a status
-    // blames, and which file isn't there.
+    // blames, and, where the sink's text is known, which file the last line says isn't there.
     ensures writes { Writes (meaning_in words.now).writes result (S.history shelf.old)
         (S.history shelf.new) (S.faults shelf.old) (S.faults shelf.new) }
     ensures blames { IsBlamedFor S.Shelf O.Sink shelf.old shelf.new out.old out.new result }
