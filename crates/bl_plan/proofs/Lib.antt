@@ -1,5 +1,11 @@
 pub mod NameLemmas
 pub mod Found
-pub mod KeySearch
 pub mod FirstPlaces
 pub mod SourcePlaceFacts
+pub mod NumberedLists
+pub mod LeafWays
+pub mod MemberFound
+pub mod MemberMeets
+pub mod FirstLeafTable
+pub mod PlacesSoFar
+pub mod PushedPlaces

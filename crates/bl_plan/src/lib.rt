@@ -5,6 +5,8 @@
 mod contents;
 mod fates;
 mod names;
+mod source_members;
+mod source_places;
 
 pub use bl_selection::Fate;
 pub use fates::member_fate;

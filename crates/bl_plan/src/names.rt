@@ -38,8 +38,8 @@ pub fn known_members(
     Ok(known)
 }
 
-// Gives a name a number, unless it has one.
-fn learn<'a>(
+/// Gives a name a number, unless it has one.
+pub(crate) fn learn<'a>(
     known: &mut BTreeMap<&'a [u8], u32>,
     name: &'a [u8],
     number: u32,
