@@ -9,3 +9,10 @@ pub mod MemberMeets
 pub mod FirstLeafTable
 pub mod PlacesSoFar
 pub mod PushedPlaces
+pub mod ElementsCarried
+pub mod FloatNames
+pub mod LeavesWritten
+pub mod MeetingLaws
+pub mod PlanLaws
+pub mod StepsBehind
+pub mod WayLemmas

@@ -1,13 +1,19 @@
-//! What becomes of the members of a struct under another catalogue: structs meet by name, and members
-//! by key.
+//! What becomes of the members of a struct under another catalogue, and how its elements are carried
+//! over: structs meet by name, and members by key.
 #![tactic(auto)]
 
 mod contents;
 mod fates;
+mod meeting;
+mod members;
 mod names;
+mod plans;
 mod source_members;
 mod source_places;
+mod steps;
 
 pub use bl_selection::Fate;
 pub use fates::member_fate;
 pub use names::{known_members, known_structs};
+pub use plans::PlanFault;
+pub use steps::{Carry, Plan, Step};
