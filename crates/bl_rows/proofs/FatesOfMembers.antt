@@ -11,7 +11,7 @@ use Rattle.bl_format.specs.Graph.{Value, Number, Target}
 use Rattle.bl_selection.specs.Fate.{fate_of, carried_value, first_clash}
 use Rattle.bl_selection.specs.Selection.{rebuilt_graph, whole_selection, selection_clash}
 use Rattle.bl_selection.specs.Written.{written_form}
-use Rattle.bl_answers.specs.Fates.{fates_text}
+use Rattle.bl_answers.specs.Fates.{common_struct_line, fate_line_by, fates_text}
 use Rattle.bl_rows.proofs.Evaluation.{leaves, graphs, selecting, writing}
 use Rattle.bl_rows.proofs.Literals.{hex, catalogue, header_4_big}
 use Rattle.bl_rows.proofs.Example.{object_and_mesh, with_float}
@@ -67,7 +67,7 @@ shapes_value_by_value = refl
 
 -- fate by fate
 shapes_fate_by_fate : fates_text shapes_from Four shapes_to Four ≡ shapes_fates
-unfolding leaves fate_of fates_text digits
+unfolding leaves fate_of common_struct_line fate_line_by fates_text digits
 shapes_fate_by_fate = refl
 
 -- ---- floats and other numbers

@@ -14,7 +14,7 @@ use Rattle.bl_commands.specs.declared.ending.Lack.TheVariants.{MissingDatablock,
 use Rattle.bl_commands.specs.declared.ending.Quantity.TheVariants.{BlockBytes}
 use Rattle.bl_commands.specs.Texts.{shown_bytes, shown_code, value_text, summary_line, row_text, plain_form, tab_form, fault_line, head_ending}
 use Rattle.bl_answers.specs.Schema.{struct_line, member_line_by, struct_lines}
-use Rattle.bl_answers.specs.Fates.{fate_lines}
+use Rattle.bl_answers.specs.Fates.{common_struct_line, fate_line_by, fate_lines}
 use Rattle.bl_answers.specs.ListIds.{list_text}
 use Rattle.bl_answers.specs.Dump.{node_rows, graph_rows, dump_text}
 use Rattle.bl_rows.proofs.Evaluation.{leaves, graphs, linking}
@@ -38,7 +38,7 @@ lines_of_fates : fate_lines example_8 Eight with_changes Eight 1 ≡ lines
     (codes "struct ID" ∷ codes "  *next kept" ∷ codes "  *prev kept" ∷ codes "  *newid kept"
     ∷ codes "  *lib kept" ∷ codes "  name[24] cut" ∷ codes "  flag kept" ∷ codes "  us cast"
     ∷ codes "  *orig_id fresh" ∷ [])
-unfolding leaves fate_of digits
+unfolding leaves fate_of common_struct_line fate_line_by digits
 lines_of_fates = refl
 
 listed : list_text example_8 (graph three_objects) ≡ lines
