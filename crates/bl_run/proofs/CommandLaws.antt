@@ -1,6 +1,7 @@
 -- What any words mean is lawful.
 pub mod Conversions
 pub mod Convert
+pub mod Fates
 pub mod Schema
 use Rattle.std.proofs.Common.{Option, Some, None, refl}
 use Rattle.bl_commands.specs.declared.command.Command.{Command}
@@ -8,6 +9,7 @@ use Rattle.bl_commands.specs.declared.command.Command.TheVariants as commands
 use Rattle.bl_run.specs.Commands.{meaning_of}
 use Rattle.bl_run.specs.Meaning.{IsLawful, no_meaning}
 use Rattle.bl_run.proofs.CommandLaws.Convert.{convert_lawful}
+use Rattle.bl_run.proofs.CommandLaws.Fates.{fates_lawful}
 use Rattle.bl_run.proofs.CommandLaws.Schema.{schema_lawful}
 
 none_lawful : IsLawful no_meaning
@@ -28,7 +30,7 @@ all_lawful (Some (commands.Resolve input out)) = none_lawful
 all_lawful (Some (commands.Recount input out)) = none_lawful
 all_lawful (Some (commands.Make seed n out)) = none_lawful
 all_lawful (Some (commands.Schema input)) = schema_lawful input
-all_lawful (Some (commands.Fates input cat renames)) = none_lawful
+all_lawful (Some (commands.Fates input cat renames)) = fates_lawful input cat
 all_lawful (Some (commands.List input)) = none_lawful
 all_lawful (Some (commands.Query input name path)) = none_lawful
 all_lawful (Some (commands.Dump input kind)) = none_lawful

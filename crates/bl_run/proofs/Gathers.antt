@@ -164,6 +164,15 @@ pub puts_last : {T O : Type 0} (h : Ghosts O) (o o1 o2 o3 : O) (p p1 p2 s t text
 puts_last h o o1 o2 o3 p p1 p2 s t text (Ok x) empty is first same second same' puts = (all_put _ _ _ _ p p1 p2 s t text empty is first second puts.0, puts.1 ∙ same' ∙ same)
 puts_last h o o1 o2 o3 p p1 p2 s t text (Err e) empty is first same second same' cut = cut_on h o o2 o3 _ _ e (same' ∙ same) cut (last_put _ _ _ _ p p1 p2 s t text empty is first second cut.part)
 
+-- a text of one piece is cut, where nothing was held back
+pub cut_first : {O : Type 0} (h : Ghosts O) (o o' : O) (p s text : Text) (e : Ending) → p ≡ [] → s ≡ text → IsCut h o o' (p ++ s) e → IsCut h o o' text e
+cut_first h o o' p s text e empty is cut = subst (λ (x : Text). IsCut h o o' x e) (ap (λ (x : Text). x ++ s) empty ∙ is) cut
+
+-- or it is added, and what is held back then is put, or cut
+pub puts_once : {T O : Type 0} (h : Ghosts O) (o o1 o2 : O) (p p1 s text : Text) (r : Result T Ending) → p ≡ [] → s ≡ text
+    → Adds (h.written o) p s (h.written o1) p1 → h.faults o1 ≡ h.faults o → Puts h o1 o2 p1 r → Puts h o o2 text r
+puts_once h o o1 o2 p p1 s text r empty is adds same puts = puts_last h o o o1 o2 p p p1 [] s text r empty (sym is) (adds_nothing (h.written o) p) refl adds same puts
+
 -- what is cut is answered by the ending
 pub cut_answer : {O T : Type 0} (h : Ghosts O) (o o' : O) (text : Text) (r : Result T Ending) (y e : Ending) → r ≡ Err y → y ≡ e → IsCut h o o' text e → Puts h o o' text r
 cut_answer h o o' text r y e is same cut = rw is (subst (IsCut h o o' text) (sym same) cut)

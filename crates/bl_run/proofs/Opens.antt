@@ -1,5 +1,5 @@
--- How a fault of a file that is opened decides the checks of an input.
-use Rattle.std.proofs.Common.{◌≡◌, ◌⊎◌, inl, inr, List, [], ◌∷◌, ℕ, Option, Some, None, refl, sym, subst}
+-- How a fault of a file that is opened decides its check.
+use Rattle.std.proofs.Common.{◌≡◌, ◌⊎◌, inl, inr, List, ℕ, Option, Some, None, refl, sym, subst}
 use Rattle.std.specs.Prelude.{⊤, IfSome, option_map}
 use Rattle.bl_format.specs.declared.file.HeadFault.TheVariants as head
 use Rattle.bl_format.specs.declared.file.BlockFault.TheVariants as block
@@ -16,7 +16,7 @@ use Rattle.bl_file.specs.declared.fault.OpenFault.TheVariants as opens
 use Rattle.bl_file.specs.Opening.{open_fault}
 use Rattle.bl_file.specs.Outlines as files
 use Rattle.bl_run.specs.Blame.{BlamesRisen, IsNotUsage, MayMiss}
-use Rattle.bl_run.specs.Input.{IsChecked, open_ending, input_checks}
+use Rattle.bl_run.specs.Input.{IsChecked, open_ending, opening_check, input_checks}
 use Rattle.bl_run.specs.Opened.{IsUnopened}
 
 -- ---- the ending of a fault
@@ -104,7 +104,7 @@ blames file fault (endings.FloatCast owner member) f f' m m' is risen = tt
 blames file fault (endings.PastLimit quantity count) f f' m m' is risen = tt
 blames file fault endings.Sink f f' m m' is risen = absurd is
 
--- ---- the first fault gives the first ending
+-- ---- the first fault gives the ending of the check
 
 checked_itself : (e : Ending) → IsChecked (Some e) e
 checked_itself endings.NoCommand = refl
@@ -117,10 +117,10 @@ checked_itself (endings.FloatCast owner member) = refl
 checked_itself (endings.PastLimit quantity count) = refl
 checked_itself endings.Sink = refl
 
-first_told : (o : Option OpenFault) (file : List ℕ) (fault : OpenFault) → o ≡ Some fault → IsChecked (first_ending (option_map (open_ending file) o ∷ [])) (open_ending file fault)
+first_told : (o : Option OpenFault) (file : List ℕ) (fault : OpenFault) → o ≡ Some fault → IsChecked (option_map (open_ending file) o) (open_ending file fault)
 first_told o file fault is = rw is (checked_itself (open_ending file fault))
 
-first_checked : (o : Option OpenFault) (file : List ℕ) (fault : OpenFault) → files.IsFirst o fault → IsChecked (first_ending (option_map (open_ending file) o ∷ [])) (open_ending file fault)
+first_checked : (o : Option OpenFault) (file : List ℕ) (fault : OpenFault) → files.IsFirst o fault → IsChecked (option_map (open_ending file) o) (open_ending file fault)
 first_checked o file opens.NoMemory is = tt
 first_checked o file opens.Device is = tt
 first_checked o file opens.Absent is = first_told o file opens.Absent is
@@ -146,27 +146,27 @@ told_of_fault file fault e (inr none) = subst (IsOfFault file fault) (sym none) 
 pub told_not_usage : (file : List ℕ) (fault : OpenFault) (e : Ending) → Tells file fault e → IsNotUsage e
 told_not_usage file fault e tells = not_usage file fault e (told_of_fault file fault e tells)
 
-told_checked : (o : Option OpenFault) (file : List ℕ) (fault : OpenFault) (e : Ending) → Tells file fault e → files.IsFirst o fault → IsChecked (first_ending (option_map (open_ending file) o ∷ [])) e
-told_checked o file fault e (inl is) first = subst (IsChecked (first_ending (option_map (open_ending file) o ∷ []))) (sym is) (first_checked o file fault first)
-told_checked o file fault e (inr none) first = subst (IsChecked (first_ending (option_map (open_ending file) o ∷ []))) (sym none) tt
+told_checked : (o : Option OpenFault) (file : List ℕ) (fault : OpenFault) (e : Ending) → Tells file fault e → files.IsFirst o fault → IsChecked (option_map (open_ending file) o) e
+told_checked o file fault e (inl is) first = subst (IsChecked (option_map (open_ending file) o)) (sym is) (first_checked o file fault first)
+told_checked o file fault e (inr none) first = subst (IsChecked (option_map (open_ending file) o)) (sym none) tt
 
-input_checked : (told : Option Told) (file : List ℕ) (fault : OpenFault) (e : Ending) → Tells file fault e
-    → IfSome told (λ t. files.IsFirst (open_fault 0 (bytes_under file t)) fault) → IfSome told (λ t. IsChecked (first_ending (input_checks t.held file)) e)
-input_checked None file fault e tells first = tt
-input_checked (Some t) file fault e tells first = told_checked (open_fault 0 (bytes_under file t)) file fault e tells first
+opening_checked : (told : Option Told) (used : ℕ) (file : List ℕ) (fault : OpenFault) (e : Ending) → Tells file fault e
+    → IfSome told (λ t. files.IsFirst (open_fault used (bytes_under file t)) fault) → IfSome told (λ t. IsChecked (opening_check used t.held file) e)
+opening_checked None used file fault e tells first = tt
+opening_checked (Some t) used file fault e tells first = told_checked (open_fault used (bytes_under file t)) file fault e tells first
 
 -- the file isn't opened
-pub unopened : {S : Type 0} (g : Ghosts S) (file : List ℕ) (fault : OpenFault) (e : Ending) (s s' : S) → Tells file fault e → Keeps g s s'
+pub unopened : {S : Type 0} (g : Ghosts S) (used : ℕ) (file : List ℕ) (fault : OpenFault) (e : Ending) (s s' : S) → Tells file fault e → Keeps g s s'
     → files.BlamesRisen fault (g.faults s) (g.faults s') (g.misses s) (g.misses s')
-    → IfSome (g.told s) (λ t. files.IsFirst (open_fault 0 (bytes_under file t)) fault) → IsUnopened g file s s' e
-unopened g file fault e s s' tells keeps risen first = record {
+    → IfSome (g.told s) (λ t. files.IsFirst (open_fault used (bytes_under file t)) fault) → IsUnopened g used file s s' e
+unopened g used file fault e s s' tells keeps risen first = record {
   blamed = record {
     misses = keeps.misses;
     faults = keeps.faults;
     blamed = blames file fault e _ _ _ _ (told_of_fault file fault e tells) risen;
   };
   missed = misses file fault e (told_of_fault file fault e tells);
-  checked = input_checked (g.told s) file fault e tells first;
+  checked = opening_checked (g.told s) used file fault e tells first;
 }
 
 -- where no fault stands, the checks pass

@@ -1,6 +1,7 @@
 -- The commands that this program has: which these are, the meaning of each, and of a run's words. A new command has a line
 -- in each of the two tables. This project's own.
 pub mod Convert
+pub mod Fates
 pub mod Schema
 use Rattle.std.specs.Prelude.{Bool, true, false, not, ◌||◌, List, map, String, Option, Some, None, is_some, option_and_then}
 use Rattle.std.specs.String.{string_bytes}
@@ -11,6 +12,7 @@ use Rattle.bl_commands.specs.declared.command.ConvertOptions.{ConvertOptions}
 use Rattle.bl_commands.specs.Commands.{command_of, when}
 use Rattle.bl_run.specs.Meaning.{Meaning, no_meaning}
 use Rattle.bl_run.specs.Commands.Convert.{convert_meaning}
+use Rattle.bl_run.specs.Commands.Fates.{fates_meaning}
 use Rattle.bl_run.specs.Commands.Schema.{schema_meaning}
 
 -- convert is given no option
@@ -21,6 +23,7 @@ has_no_option o = not (is_some o.like || is_some o.width || is_some o.order || i
 abbrev pub is_built : Command → Bool
 is_built (commands.Convert input out options) = has_no_option options
 is_built (commands.Schema input) = true
+is_built (commands.Fates input cat renames) = not (is_some renames)
 is_built _ = false
 
 -- a command, where this program has it
@@ -31,6 +34,7 @@ built command = when (is_built command) command
 abbrev pub meaning_of : Option Command → Meaning
 meaning_of (Some (commands.Convert input out options)) = convert_meaning input out
 meaning_of (Some (commands.Schema input)) = schema_meaning input
+meaning_of (Some (commands.Fates input cat renames)) = fates_meaning input cat
 meaning_of _ = no_meaning
 
 -- the command that the words of a run spell, where this program has it

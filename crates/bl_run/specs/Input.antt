@@ -1,6 +1,6 @@
--- The input of a command: its checks, each fault of opening it as an ending, when it can be read, and why it is refused.
--- This project's own.
-use Rattle.std.specs.Prelude.{◌≡◌, ◌⊎◌, ◌≤◌, ◌<◌, ⊤, ℕ, List, [], ◌∷◌, length, Option, Some, None, option_map, unwrap_or}
+-- The inputs of a command: their checks, each fault of opening one as an ending, when they can be read, and why one is
+-- refused. This project's own.
+use Rattle.std.specs.Prelude.{◌≡◌, ◌⊎◌, ◌≤◌, ◌<◌, ⊤, ℕ, ◌+◌, List, [], ◌∷◌, length, Option, Some, None, option_map, unwrap_or}
 use Rattle.std.specs.FinMap.{get}
 use Rattle.bl_format.specs.Limits.{most_blocks, most_input_bytes}
 use Rattle.bl_format.specs.Nodes.{File, Accepted}
@@ -34,13 +34,18 @@ open_ending file (opens.ShortBlock at) = endings.BadFile file (faults.ShortBlock
 abbrev pub bytes_held : Held → List ℕ → List ℕ
 bytes_held held name = unwrap_or (get held name) []
 
--- how the first fault of the file under a name ends a run
-abbrev pub opening_check : Held → List ℕ → Option Ending
-opening_check held input = option_map (open_ending input) (open_fault 0 (get held input))
+-- how the first fault of the file under a name ends a run that opened so many bytes before
+abbrev pub opening_check : ℕ → Held → List ℕ → Option Ending
+opening_check used held input = option_map (open_ending input) (open_fault used (get held input))
 
 -- the checks of a command with one input
 abbrev pub input_checks : Held → List ℕ → List (Option Ending)
-input_checks held input = opening_check held input ∷ []
+input_checks held input = opening_check 0 held input ∷ []
+
+-- the checks of a command with two inputs: the first is opened, and then the other
+abbrev pub two_input_checks : Held → List ℕ → List ℕ → List (Option Ending)
+two_input_checks held input other =
+    opening_check 0 held input ∷ opening_check (length (bytes_held held input)) held other ∷ []
 
 -- an ending is that of the first check, unless memory or a device gave it
 abbrev pub IsChecked : Option Ending → Ending → Type 0
@@ -48,7 +53,7 @@ IsChecked first endings.NoMemory = ⊤
 IsChecked first endings.Device = ⊤
 IsChecked first ending = first ≡ Some ending
 
--- ---- when it can be read
+-- ---- when they can be read
 
 -- the bytes are accepted as this file; with the catalogue's it has no more blocks than the limit
 pub record IsAcceptedFile (b : List ℕ) (f : File) : Type 0 where
@@ -63,17 +68,23 @@ pub record IsReadable (held : Held) (input : List ℕ) : Type 0 where
   pub small : length b ≤ most_input_bytes
   pub accepted : IsAcceptedFile b file
 
--- ---- why it is refused; where bytes have several faults the checks decide which is told
+-- two inputs can be read, and are together no longer than the limit
+pub record AreReadable (held : Held) (input other : List ℕ) : Type 0 where
+  pub first : IsReadable held input
+  pub second : IsReadable held other
+  pub small : length first.b + length second.b ≤ most_input_bytes
 
--- the file is held, and its bytes have a fault, which gives the ending
-pub record IsHeldWithFault (held : Held) (file : List ℕ) (ending : Ending) : Type 0 where
+-- ---- why one is refused; where bytes have several faults the checks decide which is told
+
+-- the file is held, and its bytes have a fault, behind so many that were opened before, which gives the ending
+pub record IsHeldWithFault (used : ℕ) (held : Held) (file : List ℕ) (ending : Ending) : Type 0 where
   pub b : List ℕ
   pub is_held : get held file ≡ Some b
   pub fault : OpenFault
-  pub has : HasOpenFault 0 b fault
+  pub has : HasOpenFault used b fault
   pub gives : ending ≡ open_ending file fault
 
 -- the file isn't held, or is held and has a fault
-abbrev pub HasInputCause : Held → List ℕ → Ending → Type 0
-HasInputCause held file ending =
-    ((get held file ≡ None) × (ending ≡ endings.Absent file)) ⊎ IsHeldWithFault held file ending
+abbrev pub HasInputCause : ℕ → Held → List ℕ → Ending → Type 0
+HasInputCause used held file ending =
+    ((get held file ≡ None) × (ending ≡ endings.Absent file)) ⊎ IsHeldWithFault used held file ending

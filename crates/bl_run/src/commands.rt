@@ -5,6 +5,7 @@ ghost use Rattle.bl_run.specs.Commands.{built, command_in, has_no_option, meanin
 ghost use Rattle.bl_run.specs.Obeying.{Obeys};
 
 mod convert;
+mod fates;
 mod schema;
 
 use bl_commands::Ending;
@@ -44,6 +45,11 @@ fn obey<S: Shelf, O: Sink>(
             convert::convert(alloc, input.as_str(), name.as_str(), shelf, out)
         }
         Command::Schema { input } => schema::schema(alloc, input.as_str(), shelf, out),
+        Command::Fates {
+            input,
+            cat,
+            renames,
+        } if renames.is_none() => fates::fates(alloc, input.as_str(), cat.as_str(), shelf, out),
         _ => Err(Ending::NoCommand),
     }
 }

@@ -5,6 +5,7 @@ use super::examples::{
 };
 use bl_num::Order;
 use bl_num::Order::{Big, Little};
+use bl_plan::known_structs;
 use bl_sdna::{SdnaFault, struct_named, type_named, write_catalogue};
 use std::alloc::Global;
 
@@ -31,6 +32,17 @@ fn numbers_of(alloc: Global, name: &[u8]) -> Option<(Option<u32>, Option<u32>)> 
     Some((struct_named(&catalogue, name), type_named(&catalogue, name)))
 }
 
+// Which struct of the example the table of names has for a name.
+fn known_number_of(alloc: Global, name: &[u8]) -> Option<Option<u32>> {
+    let Ok(catalogue) = catalogue_in(alloc, Little, example(Little)) else {
+        return None;
+    };
+    let Ok(known) = known_structs(alloc, &catalogue) else {
+        return None;
+    };
+    Some(known.get(&name).copied())
+}
+
 #[test]
 fn finds_names(rt: HostRuntime) {
     for (name, numbers) in [
@@ -39,6 +51,7 @@ fn finds_names(rt: HostRuntime) {
         (b"Objects", (None, None)),
     ] {
         assert_eq!(rt; numbers_of(rt.alloc(), name), Some(numbers));
+        assert_eq!(rt; known_number_of(rt.alloc(), name), Some(numbers.0));
     }
 }
 

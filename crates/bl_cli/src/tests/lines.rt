@@ -1,8 +1,9 @@
 // The printed lines.
 use bl_format::{BlockFault, HeadFault, Header, LayoutFault, SdnaFault};
 use bl_lines::{
-    Ending, FileFault, Lack, Quantity, block_ending, fault_line, head_ending, layout_ending,
-    member_line, schema_line, sdna_ending, status_of, struct_line, summary_line,
+    Ending, Fate, FileFault, Lack, Quantity, block_ending, common_struct_line, fate_line,
+    fault_line, head_ending, layout_ending, member_line, new_struct_line, schema_line, sdna_ending,
+    status_of, struct_line, summary_line,
 };
 use bl_num::{NoMemory, Order, Text, Width};
 use std::alloc::Global;
@@ -29,8 +30,29 @@ fn are_printed(alloc: Global, wanted: &str) -> Result<bool, NoMemory> {
     Ok(found.as_slice() == wanted.as_bytes())
 }
 
+// Whether these are the lines of two structs and of members with each fate, one behind another.
+fn are_fates(alloc: Global, wanted: &str) -> Result<bool, NoMemory> {
+    let mut found = new_struct_line(alloc, b"a\"")?;
+    found.extend_from_slice(&common_struct_line(alloc, b"b\\")?)?;
+    for fate in [
+        Fate::Kept,
+        Fate::Cast,
+        Fate::Cut,
+        Fate::Extended,
+        Fate::Fresh,
+        Fate::FloatCast,
+    ] {
+        found.extend_from_slice(&fate_line(alloc, b"*c\x7f", fate)?)?;
+    }
+    Ok(found.as_slice() == wanted.as_bytes())
+}
+
 #[test]
 fn tell_of_what_is_done(rt: HostRuntime) {
+    let fates =
+        "struct a\\x22 new\nstruct b\\x5c\n  *c\\x7f kept\n  *c\\x7f cast\n  *c\\x7f cut\n  \
+        *c\\x7f extended\n  *c\\x7f fresh\n  *c\\x7f float-cast\n";
+    assert_eq!(rt; are_fates(rt.alloc(), fates), Ok(true));
     let lines = "blocks 9 bytes 1540\n\
         version 405 width 8 order little names 20 types 14 structs 5\n\
         struct 3 Object 136\n  120 12 float loc[3]\n  134 2 char _pad[2]\n\

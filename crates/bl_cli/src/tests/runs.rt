@@ -15,6 +15,10 @@ const CONVERT: &[&str] = &["convert", "a", "b"];
 
 const SCHEMA: &[&str] = &["schema", "a"];
 
+const FATES: &[&str] = &["fates", "a", "b"];
+
+const OWN_FATES: &[&str] = &["fates", "a", "a"];
+
 // What a run meets: a file `a`, a file `b` where it has bytes, and calls that fail.
 #[derive(Clone, Copy)]
 struct Scene<'a> {
@@ -328,6 +332,46 @@ fn prints(rt: HostRuntime) {
     assert_eq!(rt; is_cut_example(rt.alloc(), ALONE_PRINTED), Ok(true));
 }
 
+// A file with a struct whose members are each told in another way by the catalogue of another file.
+const FROM: &[u8] =
+    b"BLENDER-v405DNA1\xa0\0\0\0\0\0\0\0\0\0\0\0\0\0\0\0\x01\0\0\0SDNANAME\x07\0\0\0kept\0cast\
+    \0cut[8]\0extended[2]\0clash\0*held[1]\0x\0\0\0TYPE\x06\0\0\0char\0short\0int\0float\0Sam\
+    e\0Old\0\0\0TLEN\x01\0\x02\0\x04\0\x04\0\"\0\x04\0STRC\x02\0\0\0\x04\0\x06\0\x02\0\0\0\
+    \x01\0\x01\0\0\0\x02\0\x02\0\x03\0\x03\0\x04\0\x05\0\x05\0\x05\0\x01\0\x02\0\x06\0ENDB\0\
+    \0\0\0\0\0\0\0\0\0\0\0\0\0\0\0\0\0\0\0";
+
+// The other file, with pointers of 4 bytes and the highest byte first.
+const TO: &[u8] =
+    b"BLENDER_V300DNA1\0\0\0\xa0\0\0\0\0\0\0\0\0\0\0\0\x01SDNANAME\0\0\0\x08x\0*held\0kept\0cas\
+    t\0cut[4]\0extended[3]\0clash\0fresh\0\0\0\0TYPE\0\0\0\x05char\0int\0New\0Same\0Old\0\0\0\
+    TLEN\0\x01\0\x04\0\x01\0!\0\x04\0\0STRC\0\0\0\x02\0\x02\0\x01\0\0\0\0\0\x03\0\x07\0\x04\0\
+    \x01\0\x01\0\x02\0\x01\0\x03\0\0\0\x04\0\x01\0\x05\0\x01\0\x06\0\0\0\x07ENDB\0\0\0\0\0\0\
+    \0\0\0\0\0\0\0\0\0\0";
+
+const FATES_PRINTED: &str =
+    "struct New new\nstruct Same\n  *held kept\n  kept kept\n  cast cast\n  \
+    cut[4] cut\n  extended[3] extended\n  clash float-cast\n  fresh fresh\n";
+
+const OWN_FATES_PRINTED: &str = "struct Same\n  kept kept\n  cast kept\n  cut[8] kept\n  \
+    extended[2] kept\n  clash kept\n  *held[1] kept\nstruct Old\n  x kept\n";
+
+// Whether these are the fates under the other file, and under a file's own catalogue.
+fn are_fates_printed(alloc: Global, printed: &str, own: &str) -> Result<bool, NoMemory> {
+    let mut scene = quiet(FROM);
+    scene.b = TO;
+    let (text, own_text) = (printed.as_bytes(), own.as_bytes());
+    Ok(
+        leaves(alloc, &scene, FATES, 0, text, FROM, Some(TO))?
+            && leaves(alloc, &scene, OWN_FATES, 0, own_text, FROM, Some(TO))?,
+    )
+}
+
+#[test]
+fn prints_fates(rt: HostRuntime) {
+    let printed = are_fates_printed(rt.alloc(), FATES_PRINTED, OWN_FATES_PRINTED);
+    assert_eq!(rt; printed, Ok(true));
+}
+
 // Two structs of four bytes, and a block of struct 1 that has three.
 const THREE_OF_FOUR: &[u8] = b"BLENDER-v405\
     DATA\x03\0\0\0\0\x10\0\0\0\0\0\0\x01\0\0\0\x01\0\0\0\x01\x02\x03\
@@ -493,8 +537,12 @@ fn answers_by_its_words(rt: HostRuntime) {
     for (all, status, line) in [
         (["convert", "c", "b"].as_slice(), 4, "absent c\n"),
         (&["schema", "c"], 4, "absent c\n"),
+        (&["fates", "c", "b"], 4, "absent c\n"),
+        (&["fates", "a", "c"], 4, "absent c\n"),
+        (&["fates", "a", "b"], 6, "bad file b: BadMagic\n"),
         (&["convert", "a"], 2, "usage\n"),
         (&["schema", "a", "b"], 2, "usage\n"),
+        (&["fates", "a", "a", "--renames", "b"], 2, "usage\n"),
         (&["convert", "a", "b.bl-part"], 2, "usage\n"),
         (&["append", "a", "a", "b", "OBCube"], 2, "usage\n"),
         (&[], 2, "usage\n"),

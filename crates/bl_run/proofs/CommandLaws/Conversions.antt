@@ -1,5 +1,5 @@
 -- What is rendered of an opened input is its conversion, and how a conversion isn't staged.
-use Rattle.std.proofs.Common.{◌≡◌, ◌≤◌, ◌<◌, ◌⊎◌, inl, inr, List, [], ◌∷◌, All, length, ℕ, Option, Some, None, Result, Ok, refl, sym, ap, subst, ◌∙◌, arith, option_map}
+use Rattle.std.proofs.Common.{◌≡◌, ◌≤◌, ◌<◌, inl, inr, List, [], ◌∷◌, All, length, ℕ, Option, Some, None, Result, Ok, refl, sym, ap, subst, ◌∙◌, arith, option_map}
 use Rattle.std.specs.Prelude.{⊤, IfSome, IfOk, IsSomeAnd, unwrap_or}
 use Rattle.std.specs.List.{enumerate_from}
 use Rattle.std.specs.FinMap.{get}
@@ -21,7 +21,6 @@ use Rattle.bl_commands.specs.declared.ending.Ending.TheVariants as endings
 use Rattle.bl_commands.specs.Texts.{Text, summary_line}
 use Rattle.bl_commands.specs.Checks.{first_ending}
 use Rattle.bl_shelf.specs.Calls.{Keeps, Holds, IsQuiet}
-use Rattle.bl_shelf.specs.History.{with_stage}
 use Rattle.bl_shelf.specs.Told.{Told, held_of, bytes_under, abandon_in}
 use Rattle.bl_shelf.specs.declared.shelf.Shelf.{Ghosts as ShelfGhosts}
 use Rattle.bl_file.specs.declared.outline.Outline.{Outline}
@@ -41,12 +40,11 @@ use Rattle.bl_writer.specs.Rendering.{staged_as}
 use Rattle.bl_writer.specs.Totals.{AreTotals}
 use Rattle.bl_run.specs.Blame.{BlamesRisen, IsEndingOf, IsNotUsage, MayMiss}
 use Rattle.bl_run.specs.Commands.Convert.{convert_graph, convert_bytes, convert_line, convert_effect, convert_outcome, convert_meaning}
-use Rattle.bl_run.specs.Input.{bytes_held, input_checks}
-use Rattle.bl_run.specs.Meaning.{Effect, unless_ending}
+use Rattle.bl_run.specs.Input.{bytes_held, opening_check, input_checks}
 use Rattle.bl_run.specs.Opened.{IsInput, IsUnopened}
 use Rattle.bl_run.specs.Rendering.{IsOutside, IsWriteEnding}
 use Rattle.bl_run.specs.Staging.{IsStaged, IsReady, IsUnready}
-use Rattle.bl_run.proofs.Inputs.{checked_ends}
+use Rattle.bl_run.proofs.Inputs.{one_ends, takes_effect}
 
 -- ---- the draft
 
@@ -91,10 +89,6 @@ unfolding selection_graph
 length-selection_graph files d = length-map (enumerate_from 0 d.entries) _ ∙ length-enumerate_from 0 d.entries
 
 -- ---- what is staged
-
-takes_effect : (first : Option Ending) (effect : Effect) → first ≡ None → unless_ending first effect ≡ Ok effect
-takes_effect (Some e) effect is = cc
-takes_effect None effect is = refl
 
 module _ (b : List ℕ) (o : Outline) (stands : StandsFor b o) where
   graph_is : selection_graph (file_in b ∷ []) (own_draft o) ≡ convert_graph b
@@ -235,7 +229,7 @@ module _ {S : Type 0} (g : ShelfGhosts S) (input name : List ℕ) (s : S) (empty
   }
 
 -- an input that isn't opened is converted to nothing
-pub conversion_unopened : {S : Type 0} (g : ShelfGhosts S) (input name : List ℕ) (s s' : S) (e : Ending) → g.room s ≡ None → Keeps g s s' → IsUnopened g input s s' e
+pub conversion_unopened : {S : Type 0} (g : ShelfGhosts S) (input name : List ℕ) (s s' : S) (e : Ending) → g.room s ≡ None → Keeps g s s' → IsUnopened g 0 input s s' e
     → IsUnready g (convert_meaning input name) name s s' e
 unfolding convert_meaning convert_outcome
 conversion_unopened g input name s s' e empty keeps not = record {
@@ -244,7 +238,7 @@ conversion_unopened g input name s s' e empty keeps not = record {
   held = ap held_of keeps.told;
   blamed = not.blamed;
   missed = not.missed;
-  checked = IfSome_then (g.told s) not.checked (λ t is. checked_ends (first_ending (input_checks t.held input)) (convert_effect (bytes_held t.held input) name) e _ _ _ _ not.blamed.blamed is);
+  checked = IfSome_then (g.told s) not.checked (λ t is. one_ends (convert_effect (bytes_held t.held input) name) e _ _ _ _ not.blamed.blamed (opening_check 0 t.held input) is);
 }
 
 -- the words didn't give the ending of a fault of writing

@@ -11,21 +11,19 @@ use Rattle.bl_answers.specs.Schema.{schema_line, schema_text, struct_lines}
 use Rattle.bl_commands.specs.declared.ending.Ending.{Ending}
 use Rattle.bl_commands.specs.Checks.{first_ending}
 use Rattle.bl_commands.specs.Texts.{Text}
-use Rattle.bl_shelf.specs.Calls.{Keeps}
 use Rattle.bl_shelf.specs.Told.{Held, Told, bytes_under}
 use Rattle.bl_shelf.specs.declared.shelf.Shelf.{Ghosts as ShelfGhosts}
 use Rattle.bl_shelf.specs.Written.{Grows}
 use Rattle.bl_file.specs.declared.outline.Outline.{Outline}
-use Rattle.bl_file.specs.declared.payload.Payload.{Ghosts}
 use Rattle.bl_file.specs.Held.{IsHeldAnd}
 use Rattle.bl_file.specs.Opening.{header_in, catalogue_in, file_in, open_fault}
 use Rattle.bl_file.specs.Outlines.{StandsFor}
 use Rattle.bl_run.specs.Blame.{IsEndingOf, MayMiss}
-use Rattle.bl_run.specs.Input.{bytes_held, input_checks}
-use Rattle.bl_run.specs.Meaning.{Effect, IsDone, IsLawful, names_of_files, unless_ending}
+use Rattle.bl_run.specs.Input.{bytes_held, opening_check, input_checks}
+use Rattle.bl_run.specs.Meaning.{IsDone, IsLawful, names_of_files, unless_ending}
 use Rattle.bl_run.specs.Opened.{IsUnopened}
 use Rattle.bl_run.specs.Commands.Schema.{schema_effect, schema_meaning, schema_outcome, IsPrinted}
-use Rattle.bl_run.proofs.Inputs.{input_passed, input_able, input_own, input_caused, checked_ends}
+use Rattle.bl_run.proofs.Inputs.{input_passed, input_able, input_own, input_caused, one_ends, takes_effect}
 use Rattle.bl_run.proofs.Opens.{input_passes}
 
 printed : (held : Held) (held' : Option Held) (w w' : Option Text) (input : List ℕ)
@@ -63,10 +61,6 @@ pub schema_text_at : (h : Header) (c : Catalogue) (v : Width) → v ≡ h.width 
 unfolding schema_text
 schema_text_at h c v is = rw is refl
 
-takes_effect : (first : Option Ending) (effect : Effect) → first ≡ None → unless_ending first effect ≡ Ok effect
-takes_effect (Some e) effect is = cc
-takes_effect None effect is = refl
-
 -- the outcome of an input that is opened
 schema_known : (A : List ℕ → Type 0) (t : Told) (input : List ℕ) (bytes : Option (List ℕ)) (o : Outline) → bytes_under input t ≡ bytes → first_ending (input_checks t.held input) ≡ None
     → IsSomeAnd bytes (λ b. A b × StandsFor b o) → (schema_meaning input).outcome t.held ≡ Ok (record { file = None; text = schema_text o.header o.layout.catalogue })
@@ -85,11 +79,11 @@ schema_of_input A None input o passes stands = tt
 schema_of_input A (Some t) input o passes stands = (tt, schema_known A t input (bytes_under input t) o refl (input_passes (Some t) input passes) stands)
 
 -- the checks of an input that isn't opened end it
-pub schema_unopened : {S : Type 0} (g : ShelfGhosts S) (input : List ℕ) (s s1 : S) (e : Ending) → IsUnopened g input s s1 e
+pub schema_unopened : {S : Type 0} (g : ShelfGhosts S) (input : List ℕ) (s s1 : S) (e : Ending) → IsUnopened g 0 input s s1 e
     → MayMiss (schema_meaning input).may_miss e × IfSome (g.told s) (λ t. IsEndingOf ((schema_meaning input).outcome t.held) e)
 unfolding schema_meaning schema_outcome
 schema_unopened g input s s1 e not =
-    (not.missed, IfSome_then (g.told s) not.checked (λ t is. checked_ends (first_ending (input_checks t.held input)) (schema_effect (bytes_held t.held input)) e _ _ _ _ not.blamed.blamed is))
+    (not.missed, IfSome_then (g.told s) not.checked (λ t is. one_ends (schema_effect (bytes_held t.held input)) e _ _ _ _ not.blamed.blamed (opening_check 0 t.held input) is))
 
 pub schema_writes : (input : List ℕ) → (schema_meaning input).writes ≡ []
 unfolding schema_meaning

@@ -59,5 +59,5 @@ convert_meaning input out = record {
   reads_bytes = λ held. All (λ byte. byte < 256) (bytes_held held input);
   accomplishes = λ held held' written written'. IsCommitted held held' input out;
   can_be_done = λ held. IsReadable held input;
-  has_cause = λ held ending. HasInputCause held input ending;
+  has_cause = λ held ending. HasInputCause 0 held input ending;
 }

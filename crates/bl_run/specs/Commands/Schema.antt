@@ -39,5 +39,5 @@ schema_meaning input = record {
   reads_bytes = λ held. ⊤;
   accomplishes = λ held held' written written'. IsPrinted held held' written written' input;
   can_be_done = λ held. IsReadable held input;
-  has_cause = λ held ending. HasInputCause held input ending;
+  has_cause = λ held ending. HasInputCause 0 held input ending;
 }

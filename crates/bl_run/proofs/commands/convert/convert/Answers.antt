@@ -10,7 +10,7 @@ pub returns-in-Err-clause-obeys : goal.returns-in-Err-clause-obeys
 returns-in-Err-clause-obeys g c =
     let input = c.args.input.now in
     let name = c.args.name.now in
-    let not = unopened g.S.Shelf input c.in-Err.fault c.open_ending.result _ _ c.open_ending.ensures c.open.ensures.keeps c.in-Err.ensures.cause c.in-Err.ensures.refuses in
+    let not = unopened g.S.Shelf 0 input c.in-Err.fault c.open_ending.result _ _ c.open_ending.ensures c.open.ensures.keeps c.in-Err.ensures.cause c.in-Err.ensures.refuses in
     unready_ends g.S.Shelf g.O.Sink (convert_meaning input name) name (convert_writes input name) _ _ c.args.out.now c.open_ending.result
     (conversion_unopened g.S.Shelf input name _ _ c.open_ending.result c.requires c.open.ensures.keeps not)
 

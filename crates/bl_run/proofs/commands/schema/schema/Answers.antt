@@ -7,7 +7,7 @@ use Rattle.bl_run.proofs.commands.schema.schema.Goals as goal
 pub returns-in-Err-clause-obeys : goal.returns-in-Err-clause-obeys
 returns-in-Err-clause-obeys g c =
     let input = c.args.input.now in
-    let not = unopened g.S.Shelf input c.in-Err.fault c.open_ending.result _ _ c.open_ending.ensures c.open.ensures.keeps c.in-Err.ensures.cause c.in-Err.ensures.refuses in
+    let not = unopened g.S.Shelf 0 input c.in-Err.fault c.open_ending.result _ _ c.open_ending.ensures c.open.ensures.keeps c.in-Err.ensures.cause c.in-Err.ensures.refuses in
     let ends = schema_unopened g.S.Shelf input _ _ c.open_ending.result not in
     unread_ends g.S.Shelf g.O.Sink (schema_meaning input) (schema_writes input) _ _ c.args.out.now c.requires c.open.ensures.keeps c.open_ending.result not.blamed ends.0 ends.1
 
