@@ -541,6 +541,7 @@ fn answers_by_its_words(rt: HostRuntime) {
         (&["fates", "a", "c"], 4, "absent c\n"),
         (&["fates", "a", "b"], 6, "bad file b: BadMagic\n"),
         (&["convert", "a"], 2, "usage\n"),
+        (&["convert", "a", "b", "--width", "4"], 2, "usage\n"),
         (&["schema", "a", "b"], 2, "usage\n"),
         (&["fates", "a", "a", "--renames", "b"], 2, "usage\n"),
         (&["convert", "a", "b.bl-part"], 2, "usage\n"),
