@@ -1,7 +1,8 @@
 // The commands that this program has. A new one has a module, and an arm here.
-ghost use Rattle.std.specs.Prelude.{◌≡◌, None};
+ghost use Rattle.std.specs.Prelude.{◌≡◌, Option, None, IfOk, option_and_then};
+ghost use Rattle.bl_commands.specs.declared.command.Command.{Command};
 ghost use Rattle.bl_run.specs.Blame.{IsUsage};
-ghost use Rattle.bl_run.specs.Commands.{built, command_in, has_no_option, meaning_in, meaning_of};
+ghost use Rattle.bl_run.specs.Commands.{built, has_no_option, meaning_of};
 ghost use Rattle.bl_run.specs.Obeying.{Obeys};
 
 mod convert;
@@ -9,8 +10,9 @@ mod fates;
 mod schema;
 
 use bl_commands::Ending;
+use bl_num::NoMemory;
 use bl_shelf::{Shelf, Sink};
-use bl_words::{Command, ConvertOptions, command_of};
+use bl_words::{Command, ConvertOptions};
 use std::alloc::Global;
 
 // Whether convert is given no option.
@@ -24,51 +26,36 @@ fn has_no_option(options: &ConvertOptions) -> bool
         && options.renames.is_none()
 }
 
-// Does what a command says, if this program has it.
-fn obey<S: Shelf, O: Sink>(
+/// Does what words say, by the command that they spell, if this program has it. The command is
+/// `command_of` of the words, which is lent.
+pub fn perform<S: Shelf, O: Sink>(
     alloc: Global,
-    command: &Command,
+    command: &Result<Option<Command>, NoMemory>,
     shelf: &mut S,
     out: &mut O,
 ) -> Result<(), Ending>
     requires { S.room shelf.old ≡ None }
-    ensures obeys { Obeys S.Shelf O.Sink (meaning_of (built command.now))
+    ensures obeys { (spelled : Option Command) → IfOk command.now (λ c. c ≡ spelled)
+        → Obeys S.Shelf O.Sink (meaning_of (option_and_then built spelled))
         shelf.old shelf.new out.old out.new result }
-    ensures usage { IsUsage (built command.now) result }
+    ensures usage { (spelled : Option Command) → IfOk command.now (λ c. c ≡ spelled)
+        → IsUsage (option_and_then built spelled) result }
 {
     match command {
-        Command::Convert {
+        Err(_) => Err(Ending::NoMemory),
+        Ok(Some(Command::Convert {
             input,
             out: name,
             options,
-        } if has_no_option(options) => {
+        })) if has_no_option(options) => {
             convert::convert(alloc, input.as_str(), name.as_str(), shelf, out)
         }
-        Command::Schema { input } => schema::schema(alloc, input.as_str(), shelf, out),
-        Command::Fates {
+        Ok(Some(Command::Schema { input })) => schema::schema(alloc, input.as_str(), shelf, out),
+        Ok(Some(Command::Fates {
             input,
             cat,
             renames,
-        } if renames.is_none() => fates::fates(alloc, input.as_str(), cat.as_str(), shelf, out),
-        _ => Err(Ending::NoCommand),
-    }
-}
-
-/// Does what the words spell, if they spell a command that this program has.
-pub fn perform<S: Shelf, O: Sink>(
-    alloc: Global,
-    words: &[String],
-    shelf: &mut S,
-    out: &mut O,
-) -> Result<(), Ending>
-    requires { S.room shelf.old ≡ None }
-    ensures obeys { Obeys S.Shelf O.Sink (meaning_in words.now)
-        shelf.old shelf.new out.old out.new result }
-    ensures usage { IsUsage (command_in words.now) result }
-{
-    match command_of(alloc, words) {
-        Err(_) => Err(Ending::NoMemory),
-        Ok(None) => Err(Ending::NoCommand),
-        Ok(Some(command)) => obey(alloc, &command, shelf, out),
+        })) if renames.is_none() => fates::fates(alloc, input.as_str(), cat.as_str(), shelf, out),
+        Ok(_) => Err(Ending::NoCommand),
     }
 }

@@ -10,6 +10,7 @@ use crate::commands::perform;
 use bl_commands::Ending;
 use bl_lines::{fault_line, status_of};
 use bl_shelf::{Shelf, Sink, SinkFault};
+use bl_words::command_of;
 use std::alloc::Global;
 
 // Puts the line of what ended a run, and answers the status.
@@ -95,6 +96,7 @@ pub fn run<S: Shelf, O: Sink>(alloc: Global, words: &[String], shelf: &mut S, ou
     ensures absent { result ≡ 4 → TellsAbsent (meaning_in words.now)
         (O.faults out.old) (O.faults out.new) (O.written out.old) (O.written out.new) }
 {
-    let done = perform(alloc, words, shelf, out);
+    let command = command_of(alloc, words);
+    let done = perform(alloc, &command, shelf, out);
     conclude(alloc, done, out)
 }
