@@ -10,6 +10,7 @@ mod layouts;
 mod lines;
 mod numbers;
 mod outputs;
+mod plans;
 mod raw_data;
 mod runs;
 mod shelves;

@@ -123,8 +123,8 @@ fn joins_views(rt: HostRuntime) {
     assert_eq!(rt; have_kinds(rt.alloc(), &kinds), Some(true));
 }
 
-// One address names the second node, and all others name nothing.
-struct OneName;
+/// One address names the second node, and all others name nothing.
+pub struct OneName;
 
 impl Images for OneName {
     ghost names = { λ _ address. if address == 0x4142 then Some 1 else None };
