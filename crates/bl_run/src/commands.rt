@@ -43,19 +43,27 @@ pub fn perform<S: Shelf, O: Sink>(
 {
     match command {
         Err(_) => Err(Ending::NoMemory),
-        Ok(Some(Command::Convert {
-            input,
-            out: name,
-            options,
-        })) if has_no_option(options) => {
+        Ok(
+            Some(
+                Command::Convert {
+                    input,
+                    out: name,
+                    options,
+                },
+            ),
+        ) if has_no_option(options) => {
             convert::convert(alloc, input.as_str(), name.as_str(), shelf, out)
         }
         Ok(Some(Command::Schema { input })) => schema::schema(alloc, input.as_str(), shelf, out),
-        Ok(Some(Command::Fates {
-            input,
-            cat,
-            renames,
-        })) if renames.is_none() => fates::fates(alloc, input.as_str(), cat.as_str(), shelf, out),
+        Ok(
+            Some(
+                Command::Fates {
+                    input,
+                    cat,
+                    renames,
+                },
+            ),
+        ) if renames.is_none() => fates::fates(alloc, input.as_str(), cat.as_str(), shelf, out),
         Ok(_) => Err(Ending::NoCommand),
     }
 }
