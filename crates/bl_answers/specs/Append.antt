@@ -9,7 +9,8 @@ use Rattle.bl_linking.specs.References.{name_capacity}
 use Rattle.bl_linking.specs.Append.{catalogue_in, name_in, path_in, local_named, Merge, Branch, branches, appended_draft}
 use Rattle.bl_commands.specs.declared.ending.Ending.{Ending}
 use Rattle.bl_commands.specs.Checks.{first_ending}
-use Rattle.bl_answers.specs.Merges.{missing_struct, unfit_struct, no_struct_ending, missing_root, no_datablock_ending, overlong_length, path_capacity, LongText, LongPath, LongName, long_text_ending, too_many_libraries, float_cast_ending}
+use Rattle.bl_answers.specs.Merges.{missing_struct, unfit_struct, no_struct_ending, missing_root, no_datablock_ending, overlong_length, path_capacity, LongText, LongPath, LongName, long_text_ending, too_many_libraries}
+use Rattle.bl_answers.specs.Writing.{float_cast_ending}
 
 -- the libraries and placeholders of the output, in order, each as file and node
 abbrev pub branch_nodes : List Branch → List (ℕ × ℕ)

@@ -8,3 +8,4 @@ pub mod Query
 pub mod Resolve
 pub mod Schema
 pub mod Values
+pub mod Writing

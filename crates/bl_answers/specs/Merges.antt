@@ -5,14 +5,14 @@ use Rattle.std.specs.List.{find, list_any}
 use Rattle.std.specs.Str.{bytes_eq}
 use Rattle.bl_format.specs.declared.catalogue.Catalogue.{Catalogue}
 use Rattle.bl_format.specs.Words.{first_place}
-use Rattle.bl_format.specs.Layout.{struct_name, struct_named, name_of, struct_number}
+use Rattle.bl_format.specs.Layout.{struct_named, struct_number}
 use Rattle.bl_format.specs.Nodes.{has_id_part, is_id}
 use Rattle.bl_format.specs.Limits.{most_libraries}
 use Rattle.bl_selection.specs.Selection.{index_under, no_head}
 use Rattle.bl_linking.specs.References.{node_in, node_struct, id_struct, name_capacity, char_array, path_array}
 use Rattle.bl_linking.specs.Append.{Source, catalogue_in, libraries, placeholders, placeholder_library, local_named}
 use Rattle.bl_commands.specs.declared.ending.Ending.{Ending}
-use Rattle.bl_commands.specs.declared.ending.Ending.TheVariants.{Missing, BadFile, FloatCast, PastLimit}
+use Rattle.bl_commands.specs.declared.ending.Ending.TheVariants.{Missing, BadFile, PastLimit}
 use Rattle.bl_commands.specs.declared.ending.FileFault.TheVariants.{StrayPlaceholder}
 use Rattle.bl_commands.specs.declared.ending.Lack.TheVariants.{NoIdStruct, NoName, NoLibraryStruct, NoDatablock, NoStruct}
 use Rattle.bl_commands.specs.declared.ending.Quantity.TheVariants.{PathBytes, NameBytes, Libraries}
@@ -114,7 +114,3 @@ long_text_ending (LongName n) = PastLimit NameBytes n
 -- how a run ends for so many libraries in its output, where they are too many
 abbrev pub too_many_libraries : ℕ → Option Ending
 too_many_libraries n = ending_if (nat_lt most_libraries n) (PastLimit Libraries n)
-
--- how a run ends for a float that would meet another number, by struct and member of the target catalogue
-abbrev pub float_cast_ending : Catalogue → ℕ × ℕ → Ending
-float_cast_ending c (t, k) = FloatCast (struct_name c t) (name_of c t k).identifier

@@ -10,7 +10,8 @@ use Rattle.bl_commands.specs.declared.ending.Ending.{Ending}
 use Rattle.bl_commands.specs.declared.ending.Ending.TheVariants.{Missing}
 use Rattle.bl_commands.specs.declared.ending.Lack.TheVariants.{MissingDatablock}
 use Rattle.bl_commands.specs.Checks.{first_ending}
-use Rattle.bl_answers.specs.Merges.{unfit_struct, no_struct_ending, float_cast_ending}
+use Rattle.bl_answers.specs.Merges.{unfit_struct, no_struct_ending}
+use Rattle.bl_answers.specs.Writing.{float_cast_ending}
 
 -- the open files in the order in which missing datablocks are looked for: IN, and then by name
 abbrev pub file_order : List OpenFile → List ℕ

@@ -1,1 +1,2 @@
 mod SecondGroup
+mod OwnForm

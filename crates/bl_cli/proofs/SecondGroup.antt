@@ -1,4 +1,4 @@
--- The draft of the second of two groups of a file, which a test renders, is one of the file's own nodes.
+-- The draft of the second of two groups of a file, which a test renders, is one of the file's nodes.
 use Rattle.std.proofs.Common.{◌≡◌, ℕ, Bool, true, false, List, [], ◌∷◌, get_or, length, slice_index_or, Option, Some, None, refl, sym, ap, subst, ◌∙◌, arith}
 use Rattle.std.specs.Prelude.{◌==◌, ◌||◌, ◌&&◌, not, codes, map}
 use Rattle.std.specs.Str.{bytes_eq}
@@ -7,6 +7,7 @@ use Rattle.std.proofs.lemmas.Slice.Eq.{bytes_eq-Decides}
 use Rattle.bl_format.specs.declared.file.Header.{Header}
 use Rattle.bl_format.specs.declared.file.Head.{Head}
 use Rattle.bl_format.specs.declared.catalogue.Catalogue.{Catalogue}
+use Rattle.bl_format.specs.Layout.{HasLayout}
 use Rattle.bl_format.specs.Nodes.{File}
 use Rattle.bl_format.specs.Graph.{file_codes}
 use Rattle.bl_selection.specs.declared.draft.Draft.{Draft}
@@ -16,8 +17,8 @@ use Rattle.bl_selection.specs.Drafts.{kept_in_group, are_sources, is_good_source
 use Rattle.bl_selection.proofs.OwnFormNames.{HaveOwnIndex}
 use Rattle.bl_file.specs.declared.outline.Outline.{Outline}
 use Rattle.bl_file.specs.Outlines.{IsSound, file_with}
-use Rattle.bl_draft.specs.Own.{IsOfSource, IsOwnDraft, outlined}
-use Rattle.bl_draft.proofs.OutlineFacts.{sound-HaveOwnIndex}
+use Rattle.bl_draft.specs.Own.{IsOfSource, IsSourceDraft, outlined}
+use Rattle.bl_draft.proofs.AllNodes.{sound-HaveOwnIndex}
 
 or_not : (b : Bool) → (b || not b) ≡ true
 or_not true = refl
@@ -97,18 +98,19 @@ codes_are (x ∷ []) first second third len a b c = absurd (omega (arith, len))
 codes_are (x ∷ y ∷ []) first second third len a b c = absurd (omega (arith, len))
 codes_are (x ∷ y ∷ z ∷ w ∷ rest) first second third len a b c = absurd (omega (arith, len))
 
--- a draft of these entries and images is one of the file's own nodes
-pub IsOwnDraft-second_group : (o : Outline) (d : Draft) → IsSound o → d ≡ second_group o.header o.layout.catalogue
-    → map (λ (x : Head). x.code) o.nodes ≡ (77 ∷ 69 ∷ 0 ∷ 0 ∷ []) ∷ (77 ∷ 69 ∷ 0 ∷ 0 ∷ []) ∷ codes "DATA" ∷ [] → IsOwnDraft o d
-IsOwnDraft-second_group o d sound is are =
+-- a draft of these entries and images is one of the file's nodes
+pub IsSourceDraft-second_group : (o : Outline) (d : Draft) → IsSound o → d ≡ second_group o.header o.layout.catalogue
+    → map (λ (x : Head). x.code) o.nodes ≡ (77 ∷ 69 ∷ 0 ∷ 0 ∷ []) ∷ (77 ∷ 69 ∷ 0 ∷ 0 ∷ []) ∷ codes "DATA" ∷ [] → IsSourceDraft o d
+IsSourceDraft-second_group o d sound is are =
     let h : Header = o.header in
     let c : Catalogue = o.layout.catalogue in
     let formed : is_well_formed (outlined o [] ∷ []) (second_group h c) ≡ true =
     subst (λ (nodes : List Head). ((k : ℕ) → is_kept c (file_with h c nodes []) k ≡ true) → is_well_formed (file_with h c nodes [] ∷ []) (second_group h c) ≡ true)
     (sym (nodes_are o.nodes are)) (well_formed h c (get_or o.nodes 0 no_head) (get_or o.nodes 1 no_head) (get_or o.nodes 2 no_head)) (is_kept-own (outlined o []) (sound-HaveOwnIndex o [] sound)) in
-    subst (IsOwnDraft o) (sym is) (record {
-      header = refl;
-      catalogue = refl;
+    subst (IsSourceDraft o) (sym is) (record {
+      version = sound.version;
+      has_layout = subst (HasLayout c) sound.width sound.has_layout;
+      short = sound.short;
       no_overrides = refl;
       sources = All-map IsOfSource (entries.Source 0) (1 ∷ 2 ∷ []) (λ k e lt. refl);
       well_formed = formed;

@@ -7,6 +7,7 @@ mod examples;
 mod files;
 mod header_and_blocks;
 mod layouts;
+mod like;
 mod lines;
 mod numbers;
 mod outputs;

@@ -1,33 +1,40 @@
--- Drafts of all nodes of a file: the test for them, and that their heads, what addresses name from them, and their kinds are
--- those of the file.
-use Rattle.std.proofs.Common.{◌≡◌, ◌<◌, ℕ, ◌+◌, true, false, List, [], ◌∷◌, ◌++◌, length, get_or, take, refl, sym, ap, subst, ◌∙◌, arith}
+-- Drafts of all nodes of a file: the test for them, and that their heads, what addresses name from them, and under the file's
+-- catalogue and width their kinds are those of the file.
+use Rattle.std.proofs.Common.{◌≡◌, ◌<◌, inl, inr, ℕ, zero, suc, ◌+◌, true, false, List, [], ◌∷◌, ◌++◌, length, get_or, take, refl, sym, ap, subst, ◌∙◌, arith}
 use Rattle.std.specs.Prelude.{◌==◌, map, slice_get}
-use Rattle.std.proofs.lemmas.Bool.{eqb-true, eq-eqb, and_parts, both_ways}
-use Rattle.std.proofs.lemmas.List.{ext_get_or, get_or-map, length-map, take_more, take_all}
+use Rattle.std.proofs.lemmas.Bool.{cases_lt, eqb-true, eq-eqb, and_parts, both_ways}
+use Rattle.std.proofs.lemmas.List.{ext_get_or, get_or-map, get_or_past, length-map, take_more, take_all}
 use Rattle.std.proofs.lemmas.Option.{slice_get-get_or}
 use Rattle.bl_format.specs.declared.file.Head.{Head}
+use Rattle.bl_format.specs.declared.file.Header.{Header}
+use Rattle.bl_format.specs.declared.catalogue.Catalogue.{Catalogue}
 use Rattle.bl_format.specs.declared.raw.RawKind.{RawKind}
+use Rattle.bl_format.specs.Schema.{CanBeRead}
 use Rattle.bl_format.specs.Words.{numbers_below}
+use Rattle.bl_format.specs.Layout.{HasLayout}
 use Rattle.bl_format.specs.Nodes.{File, Mark, group_of, marks, target_of}
 use Rattle.bl_format.specs.Graph.{file_codes, file_names, file_views, node_cells}
+use Rattle.bl_format.proofs.MemberPasses.{first_fault-none}
 use Rattle.bl_selection.specs.declared.draft.Draft.{Draft}
 use Rattle.bl_selection.specs.declared.draft.Entry.{Entry}
 use Rattle.bl_selection.specs.declared.draft.Entry.TheVariants as entries
-use Rattle.bl_selection.specs.Selection.{no_head, entry_names, is_source}
+use Rattle.bl_selection.specs.Selection.{no_head, index_under, entry_is_id, entry_names, is_source}
 use Rattle.bl_selection.proofs.EntriesAsNodes.{length-numbers_below}
-use Rattle.bl_selection.proofs.OwnFormNames.{HaveOwnIndex, own_selection, length-entries, entry_at-own, names-own}
+use Rattle.bl_selection.proofs.OwnFormNames.{HaveOwnIndex, own_selection, entry_at-own, names-own}
+use Rattle.bl_selection.proofs.OwnFormStructs.{struct_number-own}
 use Rattle.bl_file.specs.declared.outline.Outline.{Outline}
 use Rattle.bl_file.specs.Opening.{kinds_in}
 use Rattle.bl_file.specs.Outlines.{IsSound, StandsFor}
 use Rattle.bl_file.specs.Seen.{Namings, mark_group, table_names, kinds_seen, views_seen}
 use Rattle.bl_draft.specs.Entries.{no_mark}
-use Rattle.bl_draft.specs.Own.{IsOwnDraft, entry_head, entry_heads, entry_kinds, entry_node, outlined, own_names}
+use Rattle.bl_draft.specs.Kept.{HasIndex}
+use Rattle.bl_draft.specs.Own.{IsSourceDraft, entry_head, entry_heads, entry_kinds, entry_node, outlined, own_names}
 use Rattle.bl_draft.specs.Whole.{IsOfAll, all_entries}
 use Rattle.bl_draft.proofs.ListLemmas.{get_or-by, map-numbers}
-use Rattle.bl_draft.proofs.OutlineFacts.{sound-HaveOwnIndex, sound-plain}
-use Rattle.bl_draft.proofs.OwnDrafts.{IsDraftOf-own}
-use Rattle.bl_draft.proofs.OwnNames.{length-marks, mark_at}
-use Rattle.bl_draft.proofs.OwnViews.{selection_views-own}
+use Rattle.bl_draft.proofs.OutlineFacts.{sound-HasIndex}
+use Rattle.bl_draft.proofs.OwnViews.{IsPlain, selection_views-own}
+use Rattle.bl_draft.proofs.SourceDrafts.{IsDraftOf-source}
+use Rattle.bl_draft.proofs.SourceNames.{length-marks, mark_at}
 
 -- ---- the test
 
@@ -65,18 +72,61 @@ differs-by f xs k n d lt differs all =
 pub is_source-other : (k : ℕ) (x : Entry) → is_source 0 k x ≡ false → x ≡ entries.Source 0 k → ⊥
 is_source-other k x none is = both_ways (is_source 0 k x) none (ap (is_source 0 k) is ∙ eq-eqb k k refl)
 
+-- ---- nodes of an accepted file
+
+index-own : (c : Catalogue) (x : Head) → CanBeRead c → HasIndex c x → index_under c c x.index ≡ x.index
+index-own c x read has = by x.index refl
+  where
+    by : (s : ℕ) → x.index ≡ s → index_under c c s ≡ s
+    by zero is = refl
+    by (suc s) is = elim has [
+      | inl raw ↦ absurd (omega (arith, raw, is))
+      | inr lt ↦ struct_number-own c (suc s) read (omega (arith, lt, is))
+    ]
+
+-- the catalogue of a sound outline has the structs of its nodes under their own numbers, whatever the bytes
+pub sound-HaveOwnIndex : (o : Outline) (b : List ℕ) → IsSound o → HaveOwnIndex (outlined o b)
+sound-HaveOwnIndex o b sound k =
+    let c = o.layout.catalogue in
+    elim (cases_lt k (length o.nodes)) [
+      | inl lt ↦ index-own c (get_or o.nodes k no_head) sound.has_layout.can_be_read (sound-HasIndex o sound k no_head lt)
+      | inr ge ↦ subst (λ (x : Head). index_under c c x.index ≡ x.index) (sym (get_or_past o.nodes k no_head ge)) refl
+    ]
+
 -- ---- the draft
 
--- a draft of all nodes of a file under the file's header and catalogue
-pub of_all-own : (o : Outline) (b : List ℕ) (d : Draft) → IsOwnDraft o d → IsOfAll (length o.nodes) d
-    → d ≡ own_selection (outlined o b)
-of_all-own o b d own all = λ i. record {
-  header = own.header i;
-  catalogue = own.catalogue i;
+-- a draft has its file's catalogue and width
+record HasOwn (o : Outline) (d : Draft) : Type 0 where
+  catalogue : d.catalogue ≡ o.layout.catalogue
+  width : d.header.width ≡ o.header.width
+
+plain : (o : Outline) (b : List ℕ) (d : Draft) → IsSound o → IsSourceDraft o d → HasOwn o d → IsPlain (outlined o b) d
+plain o b d sound source own =
+    let layout : HasLayout o.layout.catalogue o.header.width =
+    subst (HasLayout o.layout.catalogue) sound.width sound.has_layout in
+    record {
+      catalogue = own.catalogue;
+      index = sound-HaveOwnIndex o b sound;
+      no_fault = first_fault-none o.layout.catalogue o.header.width layout.no_fault;
+      width = own.width;
+      no_overrides = source.no_overrides;
+    }
+
+-- under the file's header a draft of all nodes is the file's own one
+of_all-own : (o : Outline) (b : List ℕ) (d : Draft) → IsSourceDraft o d → d.catalogue ≡ o.layout.catalogue → IsOfAll (length o.nodes) d
+    → record d { header = o.header } ≡ own_selection (outlined o b)
+of_all-own o b d source catalogue all = λ i. record {
+  header = o.header;
+  catalogue = catalogue i;
   entries = all.entries i;
   images = all.images i;
-  overrides = own.no_overrides i;
+  overrides = source.no_overrides i;
 }
+
+-- what addresses name has nothing of the header
+names-header : (f : File) (h : Header) (d : Draft) (e : ℕ) → own_names f d e ≡ own_names f (record d { header = h }) e
+unfolding entry_names entry_is_id
+names-header f h d e = refl
 
 -- its heads are the nodes
 heads-all : (nodes : List Head) → entry_heads nodes (all_entries (length nodes)) ≡ nodes
@@ -113,34 +163,41 @@ own_names-all f index e lt =
     sym (ap (λ x. entry_names (f ∷ []) (own_selection f) e 0 (entry_node x)) (entry_at-own f index e lt)
     ∙ names-own f index e)
 
--- the kinds of its entries are those of the file
-pub entry_kinds-all : (o : Outline) (b : List ℕ) (d : Draft) → IsSound o → IsOwnDraft o d → IsOfAll (length o.nodes) d
-    → entry_kinds (outlined o b) d ≡ kinds_in (outlined o b)
-entry_kinds-all o b d sound own all =
-    let f = outlined o b in
-    let s = own_selection f in
-    let is : d ≡ s = of_all-own o b d own all in
-    let own_s : IsOwnDraft o s = subst (IsOwnDraft o) is own in
-    let index = sound-HaveOwnIndex o b sound in
-    ap (entry_kinds f) is
-    ∙ ap (kinds_seen (entry_heads f.nodes s.entries))
-    (sym (selection_views-own f s (IsDraftOf-own o s own_s) (sound-plain o b s sound own_s) (names_in f)
-    (λ e lt. own_names-all f index e (omega (arith, lt, length-entries f index)))))
-    ∙ ap (λ hs. kinds_seen hs (views_seen (names_in f) f.header f.catalogue hs f.bytes)) (heads-all f.nodes)
-    ∙ ap (kinds_seen f.nodes) (views-all f) ∙ kinds-all f
-
--- so are those that an outline has
-pub kinds-known : (o : Outline) (b : List ℕ) (d : Draft) (kinds : List RawKind) → IsSound o → IsOwnDraft o d
-    → IsOfAll (length o.nodes) d → kinds ≡ o.kinds → StandsFor b o → kinds ≡ entry_kinds (outlined o b) d
-kinds-known o b d kinds sound own all same stands =
-    same ∙ stands.kinds ∙ ap kinds_in stands.file ∙ sym (entry_kinds-all o b d sound own all)
-
 -- a node of the outline for each of its entries
 pub length-nodes : (o : Outline) (d : Draft) → IsOfAll (length o.nodes) d → length o.nodes ≡ length d.entries
 length-nodes o d all =
     let n = length o.nodes in
     let long : length (all_entries n) ≡ n = length-map (numbers_below n) (entries.Source 0) ∙ length-numbers_below n in
     sym long ∙ sym (ap (λ (es : List Entry). length es) all.entries)
+
+-- so they name from the entries of a draft of all nodes
+own_names-known : (o : Outline) (b : List ℕ) (d : Draft) → IsSound o → IsSourceDraft o d → d.catalogue ≡ o.layout.catalogue
+    → IsOfAll (length o.nodes) d → (e : ℕ) → e < length o.nodes → names_in (outlined o b) e ≡ own_names (outlined o b) d e
+own_names-known o b d sound source catalogue all e lt =
+    let f = outlined o b in
+    own_names-all f (sound-HaveOwnIndex o b sound) e lt
+    ∙ ap (λ (x : Draft). own_names f x e) (sym (of_all-own o b d source catalogue all))
+    ∙ sym (names-header f o.header d e)
+
+-- the kinds of its entries are those of the file
+entry_kinds-all : (o : Outline) (b : List ℕ) (d : Draft) → IsSound o → IsSourceDraft o d → HasOwn o d → IsOfAll (length o.nodes) d
+    → entry_kinds (outlined o b) d ≡ kinds_in (outlined o b)
+entry_kinds-all o b d sound source own all =
+    let f = outlined o b in
+    let heads : entry_heads f.nodes d.entries ≡ f.nodes = ap (entry_heads f.nodes) all.entries ∙ heads-all f.nodes in
+    ap (kinds_seen (entry_heads f.nodes d.entries))
+    (sym (selection_views-own f d (IsDraftOf-source o d source) (plain o b d sound source own) (names_in f)
+    (λ e lt. own_names-known o b d sound source own.catalogue all e (omega (arith, lt, length-nodes o d all)))))
+    ∙ ap (λ hs. kinds_seen hs (views_seen (names_in f) f.header f.catalogue hs f.bytes)) heads
+    ∙ ap (kinds_seen f.nodes) (views-all f) ∙ kinds-all f
+
+-- so are those that an outline has
+pub kinds-known : (o : Outline) (b : List ℕ) (d : Draft) (kinds : List RawKind) → IsSound o → IsSourceDraft o d
+    → d.catalogue ≡ o.layout.catalogue → d.header.width ≡ o.header.width → IsOfAll (length o.nodes) d → kinds ≡ o.kinds
+    → StandsFor b o → kinds ≡ entry_kinds (outlined o b) d
+kinds-known o b d kinds sound source catalogue width all same stands =
+    same ∙ stands.kinds ∙ ap kinds_in stands.file
+    ∙ sym (entry_kinds-all o b d sound source (record { catalogue = catalogue; width = width }) all)
 
 -- the group that a table of a file's nodes has for a node
 group_told : (f : File) (k : ℕ) → k < length f.nodes → mark_group (slice_get (marks f) k) ≡ group_of (file_codes f) k
@@ -149,12 +206,12 @@ group_told f k lt =
     ∙ ap (λ (m : Mark). m.group) (mark_at f k no_mark lt)
 
 -- what addresses name from its entries is what they name by the table of the outline
-pub names-by_table : (o : Outline) (d : Draft) (table : List Mark) → IsSound o → IsOwnDraft o d → IsOfAll (length o.nodes) d
-    → table ≡ o.table → (e : ℕ) → e < length d.entries → table_names table e ≡ own_names (outlined o []) d e
-names-by_table o d table sound own all same e lt =
+pub names-by_table : (o : Outline) (d : Draft) (table : List Mark) → IsSound o → IsSourceDraft o d
+    → d.catalogue ≡ o.layout.catalogue → d.header.width ≡ o.header.width → IsOfAll (length o.nodes) d → table ≡ o.table
+    → (e : ℕ) → e < length d.entries → table_names table e ≡ own_names (outlined o []) d e
+names-by_table o d table sound source catalogue width all same e lt =
     let f = outlined o [] in
     let below : e < length f.nodes = omega (arith, lt, length-nodes o d all) in
     ap (λ (ms : List Mark). table_names ms e) (same ∙ sound.table)
     ∙ ap (target_of (marks f)) (group_told f e below)
-    ∙ own_names-all f (sound-HaveOwnIndex o [] sound) e below
-    ∙ ap (λ (x : Draft). own_names f x e) (sym (of_all-own o [] d own all))
+    ∙ own_names-known o [] d sound source catalogue all e below

@@ -1,39 +1,46 @@
 -- The flags of the nodes that are kept, and the entries and images that they give.
-use Rattle.std.proofs.Common.{◌≡◌, ◌<◌, ◌≤◌, ◌⊎◌, inl, inr, ℕ, zero, suc, ◌+◌, Bool, true, false, cond, not, List, [], ◌∷◌, ◌++◌, length, get_or, take, Some, refl, sym, ap, ◌∙◌, arith}
+use Rattle.std.proofs.Common.{◌≡◌, ◌<◌, ◌≤◌, ◌⊎◌, inl, inr, ℕ, suc, ◌+◌, Bool, true, false, cond, not, List, [], ◌∷◌, ◌++◌, length, get_or, take, Some, refl, sym, ap, ◌∙◌, arith}
 use Rattle.std.specs.Prelude.{All, ◌==◌, ◌||◌, ◌&&◌, map, filter, count_by}
-use Rattle.std.proofs.lemmas.List.{get_or-map, get_or_default, take_more, length-take-le, length-map, map-append, append-nil}
+use Rattle.std.proofs.lemmas.Bool.{cases_lt}
+use Rattle.std.proofs.lemmas.List.{get_or-map, get_or_past, get_or_default, take_more, length-take-le, length-map, map-append, append-nil}
 use Rattle.std.proofs.lemmas.List.Elements.{filter-append}
 use Rattle.std.proofs.lemmas.List.Sums.{sum_by_push, count_by-le-length}
 use Rattle.bl_format.specs.declared.file.Head.{Head}
 use Rattle.bl_format.specs.declared.catalogue.Catalogue.{Catalogue}
-use Rattle.bl_format.specs.declared.catalogue.StructEntry.{StructEntry}
 use Rattle.bl_format.specs.Words.{numbers_below, last_place}
-use Rattle.bl_format.specs.Layout.{type_entry}
+use Rattle.bl_format.specs.Layout.{struct_numbers}
 use Rattle.bl_format.specs.Nodes.{File, is_data}
 use Rattle.bl_format.specs.Graph.{file_codes}
 use Rattle.bl_selection.specs.declared.draft.Entry.TheVariants as entries
 use Rattle.bl_selection.specs.Selection.{no_head, index_under, has_struct, head_has_struct, is_kept, own_images}
 use Rattle.bl_selection.proofs.EntriesAsNodes.{length-numbers_below}
-use Rattle.bl_draft.specs.Names.{is_numbered, shared_structs}
-use Rattle.bl_draft.specs.Kept.{HasIndex, is_shared, entries_by}
-use Rattle.bl_draft.proofs.ListLemmas.{map-numbers, last_place-push}
+use Rattle.bl_draft.specs.Numbers.{is_shared, number_at, numbers_under}
+use Rattle.bl_draft.specs.Kept.{HasIndex, entries_by}
+use Rattle.bl_draft.proofs.ListLemmas.{get_or-by, map-numbers, last_place-push}
 
--- ---- flags
+-- ---- numbers
 
-shared-index : (c from : Catalogue) (s : ℕ) → (s ≡ 0) ⊎ (s < length from.structs)
-    → is_shared (shared_structs c from) s ≡ (s == 0 || not (index_under c from s == 0))
-shared-index c from zero has = refl
-shared-index c from (suc s) has = elim has [
-  | inl none ↦ absurd (omega (arith, none))
-  | inr lt ↦ ap (λ b. suc s == 0 || b)
-      (get_or-map (λ (x : StructEntry). is_numbered c (type_entry from x.type_number).name) from.structs (suc s)
-      (record { type_number = length from.types; members = [] }) false lt)
+-- a number for each struct
+pub length-numbers_under : (c from : Catalogue) → length (numbers_under c from) ≡ length from.structs
+length-numbers_under c from = length-map (struct_numbers from) (index_under c from) ∙ length-numbers_below (length from.structs)
+
+-- the number of a node's struct stands in the list
+pub number-index : (c from : Catalogue) (s : ℕ) → (s ≡ 0) ⊎ (s < length from.structs) → number_at (numbers_under c from) s ≡ index_under c from s
+number-index c from s has = elim (cases_lt s (length from.structs)) [
+  | inl lt ↦ get_or-by (index_under c from) (length from.structs) s 0 lt
+  | inr ge ↦ (get_or_past (numbers_under c from) s 0 (omega (arith, ge, length-numbers_under c from))
+      ∙ elim has [
+        | inl none ↦ ap (index_under c from) (sym none)
+        | inr lt ↦ absurd (omega (arith, lt, ge))
+      ])
 ]
 
--- the table of shared structs says whether a node is raw or of a struct that the catalogue has
+-- the list of numbers says whether a node is raw or of a struct that the catalogue has
 pub shared-has_struct : (c from : Catalogue) (x : Head) → HasIndex from x
-    → is_shared (shared_structs c from) x.index ≡ has_struct c from x
-shared-has_struct c from x has = shared-index c from x.index has
+    → is_shared (numbers_under c from) x.index ≡ has_struct c from x
+shared-has_struct c from x has = ap (λ n. x.index == 0 || not (n == 0)) (number-index c from x.index has)
+
+-- ---- flags
 
 -- whether the head of the last group of the first i nodes stays
 abbrev pub head_before : Catalogue → File → ℕ → Bool
@@ -78,8 +85,8 @@ pub kept-none : (c : Catalogue) (f : File) → KeptSoFar c f 0 true []
 kept-none c f = record { head = refl; flags = refl }
 
 -- one node more
-pub kept-more : (c : Catalogue) (f : File) (shared : List Bool) (i : ℕ) (stays next own : Bool) (kept : List Bool)
-    (d : Head) → All (HasIndex f.catalogue) f.nodes → shared ≡ shared_structs c f.catalogue → i < length f.nodes
+pub kept-more : (c : Catalogue) (f : File) (shared : List ℕ) (i : ℕ) (stays next own : Bool) (kept : List Bool)
+    (d : Head) → All (HasIndex f.catalogue) f.nodes → shared ≡ numbers_under c f.catalogue → i < length f.nodes
     → own ≡ is_shared shared (get_or f.nodes i d).index → next ≡ cond (is_data (get_or f.nodes i d).code) stays own
     → KeptSoFar c f i stays kept → KeptSoFar c f (i + 1) next (kept ++ (own && next) ∷ [])
 kept-more c f shared i stays next own kept d all table lt own_is next_is so_far =
@@ -87,7 +94,7 @@ kept-more c f shared i stays next own kept d all table lt own_is next_is so_far 
     let y = get_or f.nodes i no_head in
     let is : x ≡ y = get_or_default f.nodes i d no_head lt in
     let own_y : own ≡ has_struct c f.catalogue y =
-    own_is ∙ ap (λ bs. is_shared bs x.index) table ∙ ap (λ (z : Head). is_shared (shared_structs c f.catalogue) z.index) is
+    own_is ∙ ap (λ ns. is_shared ns x.index) table ∙ ap (λ (z : Head). is_shared (numbers_under c f.catalogue) z.index) is
     ∙ shared-has_struct c f.catalogue y (all i no_head lt) in
     let head : next ≡ head_before c f (i + 1) =
     next_is ∙ ap (λ (z : Head). cond (is_data z.code) stays own) is

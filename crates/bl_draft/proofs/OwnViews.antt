@@ -1,4 +1,5 @@
--- What the pointers of a draft of one file's own nodes say, by the heads of the nodes and what addresses name from each.
+-- What the pointers of a draft of one file's nodes under its own catalogue and width say, by the heads of the nodes and
+-- what addresses name from each.
 use Rattle.std.proofs.Common.{◌≡◌, ◌<◌, ℕ, zero, suc, Bool, true, false, cond, List, [], ◌∷◌, length, get_or, None, refl, sym, ap, ◌∙◌, arith}
 use Rattle.std.specs.Prelude.{◌==◌, map, flat_map}
 use Rattle.std.specs.List.{enumerate_from}
@@ -19,11 +20,12 @@ use Rattle.bl_selection.proofs.OwnFormNames.{at_place, HaveOwnIndex}
 use Rattle.bl_selection.proofs.OwnFormCells.{source_cells-own}
 use Rattle.bl_file.specs.Seen.{Namings, named_cells, named_views, views_seen}
 use Rattle.bl_draft.specs.Own.{IsOfSource, entry_node, entry_head, entry_heads, own_names}
-use Rattle.bl_draft.proofs.OwnDrafts.{IsDraftOf}
+use Rattle.bl_draft.proofs.SourceDrafts.{IsDraftOf}
 
 -- what is asked of a draft beside that its entries are nodes of the file: the file's catalogue has a layout and its own
--- structs, and the draft has its width and nothing that overrides values
+-- structs, and the draft has it, the file's width, and nothing that overrides values
 pub record IsPlain (f : File) (d : Draft) : Type 0 where
+  pub catalogue : d.catalogue ≡ f.catalogue
   pub index : HaveOwnIndex f
   pub no_fault : first_fault f.catalogue f.header.width ≡ None
   pub width : d.header.width ≡ f.header.width
@@ -37,8 +39,8 @@ module _ (f : File) (d : Draft) (draft : IsDraftOf f.catalogue f.nodes d) (plain
       → source_cells files d e 0 n ≡ named_cells (entry_names files d e 0 n) f.header f.catalogue f.bytes (get_or f.nodes n no_head)
   node_cells e n =
       let x : Head = get_or f.nodes n no_head in
-      source_cells-own files d e 0 n plain.no_overrides plain.no_fault draft.catalogue plain.width
-      (ap (λ (c : Catalogue). index_under c f.catalogue x.index) draft.catalogue ∙ plain.index n)
+      source_cells-own files d e 0 n plain.no_overrides plain.no_fault plain.catalogue plain.width
+      (ap (λ (c : Catalogue). index_under c f.catalogue x.index) plain.catalogue ∙ plain.index n)
 
   node_views : (e n : ℕ)
       → entry_views files d e (entries.Source 0 n)
@@ -50,7 +52,7 @@ module _ (f : File) (d : Draft) (draft : IsDraftOf f.catalogue f.nodes d) (plain
           → flat_map (views_of d.catalogue) (cond b [] (source_cells files d e 0 n))
           ≡ cond b [] (flat_map (views_of f.catalogue) (named_cells (entry_names files d e 0 n) f.header f.catalogue f.bytes (get_or f.nodes n no_head)))
       by true = refl
-      by false = λ i. flat_map (views_of (draft.catalogue i)) (node_cells e n i)
+      by false = λ i. flat_map (views_of (plain.catalogue i)) (node_cells e n i)
 
   -- an entry says what its node says by the entry's names
   views_here : (e : ℕ) (x : Entry) → IsOfSource x

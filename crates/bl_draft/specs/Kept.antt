@@ -1,5 +1,5 @@
 -- Which nodes are kept, by flags, and the entries that stand for them.
-use Rattle.std.specs.Prelude.{◌≡◌, ◌⊎◌, ◌<◌, ℕ, Bool, false, ◌||◌, ◌==◌, List, [], length, map, filter, slice_index_or}
+use Rattle.std.specs.Prelude.{◌≡◌, ◌⊎◌, ◌<◌, ℕ, Bool, false, List, [], length, map, filter, slice_index_or}
 use Rattle.bl_format.specs.declared.file.Head.{Head}
 use Rattle.bl_format.specs.declared.catalogue.Catalogue.{Catalogue}
 use Rattle.bl_format.specs.Words.{numbers_below}
@@ -15,10 +15,6 @@ HasIndex c x = (x.index ≡ 0) ⊎ (x.index < length c.structs)
 -- a file of these nodes and this catalogue, of which nothing else is said
 abbrev pub file_of : List Head → Catalogue → File
 file_of nodes c = record { header = no_file.header; catalogue = c; nodes = nodes; bytes = [] }
-
--- an index is that of raw data or of a shared struct
-abbrev pub is_shared : List Bool → ℕ → Bool
-is_shared shared index = index == 0 || slice_index_or shared index false
 
 -- the flag of a node
 abbrev pub flag_at : List Bool → ℕ → Bool

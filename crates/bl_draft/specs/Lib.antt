@@ -1,7 +1,10 @@
-pub mod Names
+pub mod Numbers
 pub mod Kept
 pub mod Own
 pub mod Sources
+pub mod Structs
+pub mod Speakers
+pub mod Faults
 pub mod Targets
 pub mod Entries
 pub mod Whole

@@ -1,8 +1,11 @@
--- Drafts of one file's nodes under the file's own header and catalogue: what is asked of one, which nodes its entries are,
--- what addresses name from them, and the kinds that they have.
-use Rattle.std.specs.Prelude.{◌≡◌, ℕ, true, All, List, [], ◌∷◌, map, get_or}
+-- Drafts of one file's nodes under any header and catalogue: what is asked of one, which nodes its entries are, what
+-- addresses name from them, and the kinds that they have.
+use Rattle.std.specs.Prelude.{◌≡◌, ◌≤◌, ◌<◌, ◌^◌, ℕ, true, All, List, [], ◌∷◌, length, map, get_or}
 use Rattle.bl_format.specs.declared.file.Head.{Head}
 use Rattle.bl_format.specs.declared.raw.RawKind.{RawKind}
+use Rattle.bl_format.specs.Limits.{first_version, last_version}
+use Rattle.bl_format.specs.Layout.{HasLayout}
+use Rattle.bl_format.specs.Schema.{catalogue_written}
 use Rattle.bl_format.specs.Nodes.{File}
 use Rattle.bl_format.specs.Graph.{Target, Naming}
 use Rattle.bl_selection.specs.declared.draft.Draft.{Draft}
@@ -24,10 +27,11 @@ IsOfSource (entries.Source i n) = i ≡ 0
 IsOfSource (entries.Made m) = ⊥
 IsOfSource (entries.Raw code bytes) = ⊥
 
--- a draft is well-formed, of nodes of one file alone, and under the file's own header and catalogue
-pub record IsOwnDraft (o : Outline) (d : Draft) : Type 0 where
-  pub header : d.header ≡ o.header
-  pub catalogue : d.catalogue ≡ o.layout.catalogue
+-- a draft is well-formed, of nodes of one file alone, under a header and a catalogue that can be written
+pub record IsSourceDraft (o : Outline) (d : Draft) : Type 0 where
+  pub version : (first_version ≤ d.header.version) × (d.header.version ≤ last_version)
+  pub has_layout : HasLayout d.catalogue d.header.width
+  pub short : length (catalogue_written d.header.order d.catalogue) < 2 ^ 31
   pub no_overrides : d.overrides ≡ []
   pub sources : All IsOfSource d.entries
   pub well_formed : is_well_formed (outlined o [] ∷ []) d ≡ true

@@ -7,17 +7,17 @@ use Rattle.bl_file.specs.declared.outline.Outline.{Outline}
 use Rattle.bl_file.specs.declared.payload.Payload.{Ghosts}
 use Rattle.bl_file.specs.Calls.{Tells, IsOpen}
 use Rattle.bl_file.specs.Outlines.{IsSound, StandsFor}
-use Rattle.bl_draft.specs.Own.{IsOwnDraft}
+use Rattle.bl_draft.specs.Own.{IsSourceDraft}
 
--- an outline and a payload are those of an opened file, and a draft has nodes of it alone, in the file's own form
+-- an outline and a payload are those of an opened file, and a draft has nodes of it alone
 pub record IsSource {S P : Type 0} (g : ShelfGhosts S) (h : Ghosts P) (s : S) (d : Draft) (o : Outline) (p : P) : Type 0 where
   pub sound : IsSound o
-  pub own : IsOwnDraft o d
+  pub draft : IsSourceDraft o d
   pub size : h.file_size p ≡ o.size
   pub held : IsOpen g h s p
   pub stands : Tells g h s p (λ b. StandsFor b o)
 
--- there is one opened file, and a draft has nodes of it alone, in the file's own form
+-- there is one opened file, and a draft has nodes of it alone
 pub record AreOpen {S P : Type 0} (g : ShelfGhosts S) (h : Ghosts P) (s : S) (d : Draft) (xs : List (Opened P)) : Type 0 where
   pub one : length xs ≡ 1
   pub each : All (λ x. IsSource g h s d x.outline x.payload) xs

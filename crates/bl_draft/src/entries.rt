@@ -1,9 +1,11 @@
 // What is taken of each entry of a draft of one file's nodes.
-ghost use Rattle.std.specs.Prelude.{◌≡◌, ◌<◌, ◌^◌, All, IfOk, false, get_or, length, map};
+ghost use Rattle.std.specs.Prelude.{◌≡◌, All, IfOk, length, map};
 ghost use Rattle.bl_draft.specs.Own.{entry_head, entry_heads, entry_node};
-ghost use Rattle.bl_draft.specs.Entries.{IsNodeBelow, source_group, groups_among};
+ghost use Rattle.bl_draft.specs.Entries.{IsNodeBelow, source_group};
+ghost use Rattle.bl_draft.specs.Numbers.{numbered_head};
 
-use bl_addresses::{Table, groups_of};
+use crate::numbers::number_at;
+use bl_addresses::Table;
 use bl_format::Head;
 use bl_num::NoMemory;
 use bl_selection::Entry;
@@ -59,32 +61,23 @@ pub fn source_groups(alloc: Global, table: &Table, entries: &[Entry]) -> Result<
     Ok(groups)
 }
 
-/// The group of each entry in the output, by the codes of the entries' nodes.
-pub fn output_groups(alloc: Global, nodes: &[Head], entries: &[Entry]) -> Result<Vec<u32>, NoMemory>
-    requires nodes { All (IsNodeBelow (length nodes.now)) entries.now }
-    requires few { length entries.now < 2 ^ 32 }
-    ensures { IfOk result (λ groups.
-        groups.items ≡ groups_among (entry_heads nodes.now entries.now)) }
+/// Some heads with the numbers that their structs have under another catalogue.
+pub fn numbered_heads(alloc: Global, numbers: &[u32], heads: &[Head]) -> Result<Vec<Head>, NoMemory>
+    ensures { IfOk result (λ numbered. numbered.items ≡ map (numbered_head numbers.now) heads.now) }
 {
-    let heads = heads_by(alloc, nodes, entries)?;
-    groups_of(alloc, &heads)
-}
-
-/// For each entry whether its node is an ID, by whether each node is.
-pub fn ids_by(alloc: Global, ids: &[bool], entries: &[Entry]) -> Result<Vec<bool>, NoMemory>
-    ensures { IfOk result (λ flags.
-        flags.items ≡ map (λ x. get_or ids.now (entry_node x) false) entries.now) }
-{
-    let mut flags = Vec::with_capacity(alloc, entries.len())?;
-    for entry in entries {
-        flags.push(is_id(ids, entry))?;
+    let mut numbered = Vec::with_capacity(alloc, heads.len())?;
+    for head in heads {
+        numbered.push(numbered_head(numbers, head))?;
     }
-    Ok(flags)
+    Ok(numbered)
 }
 
-// Whether an entry's node is an ID.
-fn is_id(ids: &[bool], entry: &Entry) -> bool
-    ensures { result ≡ get_or ids.now (entry_node entry.now) false }
+// A head with the number that its struct has.
+fn numbered_head(numbers: &[u32], head: &Head) -> Head
+    ensures { result ≡ numbered_head numbers.now head.now }
 {
-    ids.get(node_of(entry) as usize).copied().unwrap_or(false)
+    Head {
+        index: number_at(numbers, head.index),
+        ..*head
+    }
 }

@@ -3,9 +3,10 @@ ghost use Rattle.bl_format.specs.Schema.{CanBeRead};
 ghost use Rattle.bl_format.specs.Nodes.{is_data};
 ghost use Rattle.bl_format.specs.Words.{numbers_below};
 ghost use Rattle.bl_selection.specs.Selection.{is_kept, own_images};
-ghost use Rattle.bl_draft.specs.Kept.{HasIndex, file_of, is_shared, flag_at, entries_by};
+ghost use Rattle.bl_draft.specs.Kept.{HasIndex, file_of, flag_at, entries_by};
+ghost use Rattle.bl_draft.specs.Numbers.{is_shared};
 
-use crate::names::shared_structs;
+use crate::numbers::{number_at, numbers_under};
 use bl_format::{Catalogue, Head};
 use bl_num::NoMemory;
 use bl_selection::Entry;
@@ -25,11 +26,11 @@ pub fn kept_flags(
     ensures { IfOk result (λ kept. kept.items
         ≡ map (is_kept catalogue.now (file_of nodes.now from.now)) (numbers_below (length nodes.now))) }
 {
-    let shared = shared_structs(alloc, catalogue, from)?;
+    let numbers = numbers_under(alloc, catalogue, from)?;
     let mut kept = Vec::with_capacity(alloc, nodes.len())?;
     let mut stays = true;
     for node in nodes {
-        let own = is_shared(&shared, node.index);
+        let own = is_shared(&numbers, node.index);
         stays = head_stays(node, own, stays);
         kept.push(own && stays)?;
     }
@@ -43,11 +44,11 @@ fn head_stays(node: &Head, own: bool, before: bool) -> bool
     if is_data(node) { before } else { own }
 }
 
-// Whether a node is raw or of a shared struct.
-fn is_shared(shared: &[bool], index: u32) -> bool
-    ensures { result ≡ is_shared shared.now index }
+// Whether an index is that of raw data or of a struct that has a number.
+fn is_shared(numbers: &[u32], index: u32) -> bool
+    ensures { result ≡ is_shared numbers.now index }
 {
-    index == 0 || shared.get(index as usize).copied().unwrap_or(false)
+    index == 0 || number_at(numbers, index) != 0
 }
 
 // Whether a node begins no group.

@@ -2,12 +2,14 @@
 ghost use Rattle.std.specs.Prelude.{◌≡◌, ◌<◌, ℕ, [], false, IfOk, get_or, length, option_and_then};
 ghost use Rattle.bl_selection.specs.Selection.{image_numbered};
 ghost use Rattle.bl_file.specs.Outlines.{IsSound};
-ghost use Rattle.bl_draft.specs.Own.{IsOwnDraft, outlined, own_names};
+ghost use Rattle.bl_draft.specs.Own.{IsSourceDraft, entry_heads, outlined, own_names};
+ghost use Rattle.bl_draft.specs.Structs.{AreStructsOf};
 ghost use Rattle.bl_draft.specs.Targets.{known_names, known_in_scope};
 
-use crate::entries::{ids_by, output_groups, source_groups};
-use bl_addresses::Table;
-use bl_file::{Outline, Targets};
+use crate::entries::{numbered_heads, source_groups};
+use crate::structs::TargetStructs;
+use bl_addresses::{Table, groups_of};
+use bl_file::{Head, Outline, Targets, ids_of};
 use bl_num::NoMemory;
 use bl_selection::Draft;
 use std::alloc::Global;
@@ -121,20 +123,24 @@ pub fn targets_of<'a>(
     alloc: Global,
     outline: &'a Outline,
     draft: &'a Draft,
+    structs: &TargetStructs,
+    heads: &[Head],
 ) -> Result<EntryTargets<'a>, NoMemory>
     requires sound { IsSound outline.now }
-    requires own { IsOwnDraft outline.now draft.now }
+    requires draft { IsSourceDraft outline.now draft.now }
+    requires structs { AreStructsOf outline.now draft.now structs.now }
+    requires heads { heads.now ≡ entry_heads outline.now.nodes draft.now.entries }
     ensures count { IfOk result (λ targets. length targets.groups ≡ length draft.now.entries) }
     ensures names { IfOk result (λ targets. (e : ℕ) → e < length draft.now.entries
         → known_names targets e ≡ own_names (outlined outline.now []) draft.now e) }
 {
-    let nodes = outline.nodes.as_slice();
     let entries = draft.entries.as_slice();
+    let numbered = numbered_heads(alloc, &structs.numbers, heads)?;
     Ok(EntryTargets {
         table: &outline.table,
         images: draft.images.as_slice()[0].as_slice(),
         sources: source_groups(alloc, &outline.table, entries)?,
-        groups: output_groups(alloc, nodes, entries)?,
-        ids: ids_by(alloc, outline.ids.as_slice(), entries)?,
+        groups: groups_of(alloc, heads)?,
+        ids: ids_of(alloc, structs.layout, &numbered)?,
     })
 }

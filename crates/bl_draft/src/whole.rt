@@ -1,11 +1,12 @@
-ghost use Rattle.std.specs.Prelude.{◌≡◌, ◌<◌, ◌^◌, ◌↔◌, ℕ, true, All, List, [], ◌∷◌, IfOk, IsTrue, length, suc};
-ghost use Rattle.bl_format.specs.Schema.{CanBeRead};
+ghost use Rattle.std.specs.Prelude.{◌≡◌, ◌≤◌, ◌<◌, ◌^◌, ◌↔◌, ℕ, true, All, List, [], ◌∷◌, IfOk, IsTrue, length, suc};
+ghost use Rattle.bl_format.specs.Limits.{first_version, last_version};
+ghost use Rattle.bl_format.specs.Schema.{CanBeRead, catalogue_written};
 ghost use Rattle.bl_format.specs.Layout.{HasLayout};
 ghost use Rattle.bl_selection.specs.Drafts.{is_well_formed};
 ghost use Rattle.bl_selection.specs.Selection.{draft_of, is_source, whole_selection};
 ghost use Rattle.bl_file.specs.Outlines.{IsSound};
 ghost use Rattle.bl_draft.specs.Kept.{HasIndex, file_of};
-ghost use Rattle.bl_draft.specs.Own.{IsOwnDraft, outlined};
+ghost use Rattle.bl_draft.specs.Own.{IsSourceDraft, outlined};
 ghost use Rattle.bl_draft.specs.Whole.{IsOfAll, all_entries, all_images};
 
 use crate::kept::{entries_by, kept_flags, own_images};
@@ -29,10 +30,10 @@ pub fn whole_draft<P>(
     ensures well_formed { IfOk result (λ draft. (b : List ℕ) →
         is_well_formed (outlined opened.now.outline b ∷ []) draft ≡ true) }
 
-    // Under the file's own header and catalogue it is one of the file's own nodes.
-    ensures own { header ≡ opened.now.outline.header
-        → catalogue ≡ opened.now.outline.layout.catalogue
-        → IfOk result (IsOwnDraft opened.now.outline) }
+    // Under a header and a catalogue that can be written it may be rendered.
+    ensures source { (first_version ≤ header.version) × (header.version ≤ last_version)
+        → length (catalogue_written header.order catalogue) < 2 ^ 31
+        → IfOk result (IsSourceDraft opened.now.outline) }
 {
     let outline = &opened.outline;
     let nodes = outline.nodes.as_slice();

@@ -3,6 +3,7 @@ pub mod Checks
 pub mod CallLemmas
 pub mod Given
 pub mod GroupLemmas
+pub mod HeardLaws
 pub mod HeldLemmas
 pub mod IdLemmas
 pub mod KindLaws

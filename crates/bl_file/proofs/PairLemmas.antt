@@ -30,7 +30,7 @@ abbrev pub AreViewed : List View → Type 0
 AreViewed views = All (λ (v : View). IsViewed v.kind) views
 
 -- what a pointer says is no pair
-abbrev SaysNoPair : Option RawKind → Type 0
+abbrev pub SaysNoPair : Option RawKind → Type 0
 SaysNoPair None = Unit {0}
 SaysNoPair (Some kind) = IsViewed kind
 
@@ -40,7 +40,8 @@ basic_viewed (Some zero) = tt
 basic_viewed (Some (suc zero)) = refl
 basic_viewed (Some (suc (suc n))) = refl
 
-said_viewed : (depth : ℕ) (basic : Option ℕ) → SaysNoPair (view_of depth basic)
+-- what a pointer of this depth says is no pair
+pub said_viewed : (depth : ℕ) (basic : Option ℕ) → SaysNoPair (view_of depth basic)
 unfolding view_of
 said_viewed zero basic = refl
 said_viewed (suc zero) basic = basic_viewed basic
@@ -58,13 +59,15 @@ pointer_viewed c depth t (Points (Some n)) =
     list_viewed n (view_of_type c depth t) (said_viewed depth (pointed_length c t (basic_named (type_entry c t).name)))
 pointer_viewed c depth t value = All-nil (λ (v : View). IsViewed v.kind)
 
-value_viewed : (c : Catalogue) (kind : Kind) (value : Value Target) → AreViewed (view_by c kind value)
+-- what a value says is no pair
+pub value_viewed : (c : Catalogue) (kind : Kind) (value : Value Target) → AreViewed (view_by c kind value)
 value_viewed c (kinds.Pointer depth t) value = pointer_viewed c depth t value
 value_viewed c (kinds.Whole whole) value = All-nil (λ (v : View). IsViewed v.kind)
 value_viewed c (kinds.Bits n) value = All-nil (λ (v : View). IsViewed v.kind)
 value_viewed c kinds.Opaque value = All-nil (λ (v : View). IsViewed v.kind)
 
-flat_map_viewed : {X : Type 0} (f : X → List View) (xs : List X) → ((x : X) → AreViewed (f x)) → AreViewed (flat_map f xs)
+-- nor is what stands in lists of such views
+pub flat_map_viewed : {X : Type 0} (f : X → List View) (xs : List X) → ((x : X) → AreViewed (f x)) → AreViewed (flat_map f xs)
 flat_map_viewed f [] all = All-nil (λ (v : View). IsViewed v.kind)
 flat_map_viewed f (x ∷ xs) all =
     All-append (λ (v : View). IsViewed v.kind) (f x) (flat_map f xs) (all x) (flat_map_viewed f xs all)

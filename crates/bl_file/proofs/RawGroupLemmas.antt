@@ -23,7 +23,8 @@ use Rattle.bl_file.specs.declared.views.Sight.{Sight}
 use Rattle.bl_file.specs.Groups.{is_raw_of, has_raw_below, has_raw}
 use Rattle.bl_file.specs.Outlines.{marks_of}
 use Rattle.bl_file.specs.Seen.{Namings, mark_group}
-use Rattle.bl_file.specs.Views.{is_raw, is_raw_head, raw_target, views_of_target, elements_said, node_said, node_at_said}
+use Rattle.bl_file.specs.Heard.{views_of_target}
+use Rattle.bl_file.specs.Views.{is_raw, is_raw_head, raw_target, elements_said, node_said, node_at_said}
 use Rattle.bl_file.proofs.GroupLemmas.{codes_of, is_head}
 use Rattle.bl_file.proofs.IdLemmas.{get_or-numbers_below}
 use Rattle.bl_file.proofs.TableLemmas.{group_at, last_from-inside, mark_told, marks-long}

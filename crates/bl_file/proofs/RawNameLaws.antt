@@ -26,12 +26,14 @@ use Rattle.bl_file.specs.Opening.{kinds_in}
 use Rattle.bl_file.specs.Outlines.{file_with, marks_of}
 use Rattle.bl_file.specs.Seen.{Namings, mark_group, table_names, named_cells, named_views, views_seen, kinds_seen}
 use Rattle.bl_file.specs.Speakers.{basic_lengths, said_by}
-use Rattle.bl_file.specs.Views.{is_raw, raw_target, raw_only, views_of_target, kinds_by}
+use Rattle.bl_file.specs.Heard.{views_of_target}
+use Rattle.bl_file.specs.Views.{is_raw, raw_target, raw_only, kinds_by}
 use Rattle.bl_file.proofs.KindLaws.{kinds_by_table}
 use Rattle.bl_file.proofs.KindLemmas.{kinds_by-kinds_seen}
 use Rattle.bl_file.proofs.PairLemmas.{seen_viewed}
 use Rattle.bl_file.proofs.RawGroupLemmas.{found_in_group, found_id}
-use Rattle.bl_file.proofs.ViewLaws.{filter-flat_map, kept_pointer, views_said}
+use Rattle.bl_file.proofs.NodeViewLaws.{raw_of_target}
+use Rattle.bl_file.proofs.ViewLaws.{filter-flat_map, pointer_said, views_said}
 
 -- ---- names
 
@@ -87,9 +89,10 @@ flat_map-flat_map f g (x ∷ xs) =
     flat_map-append f (g x) (flat_map g xs) ∙ ap (λ ys. flat_map f (g x) ++ ys) (flat_map-flat_map f g xs)
 
 same_said : (nodes : List Head) (target other : Target) (said : Option RawKind) → raw_target nodes target ≡ raw_target nodes other
-    → views_said nodes target said ≡ views_said nodes other said
+    → raw_only nodes (views_said target said) ≡ raw_only nodes (views_said other said)
 same_said nodes target other None same = refl
-same_said nodes target other (Some kind) same = ap (views_of_target kind) same
+same_said nodes target other (Some kind) same =
+    raw_of_target nodes kind target ∙ ap (views_of_target kind) same ∙ sym (raw_of_target nodes kind other)
 
 module _ (c : Catalogue) (nodes : List Head) (names others : Naming Target) (order : Order) (same : NamesSame nodes names others) where
   same_value : (kind : Kind) (bytes : List ℕ)
@@ -97,9 +100,9 @@ module _ (c : Catalogue) (nodes : List Head) (names others : Naming Target) (ord
   same_value (kinds.Whole whole) bytes = refl
   same_value (kinds.Bits n) bytes = refl
   same_value (kinds.Pointer depth t) bytes =
-      kept_pointer c nodes depth t _
+      ap (raw_only nodes) (pointer_said c depth t _)
       ∙ same_said nodes _ _ (said_by (basic_lengths c) (kinds.Pointer depth t)) (same _)
-      ∙ sym (kept_pointer c nodes depth t _)
+      ∙ sym (ap (raw_only nodes) (pointer_said c depth t _))
   same_value kinds.Opaque bytes = refl
 
   -- the view of element k of a leaf

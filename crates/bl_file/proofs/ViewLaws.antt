@@ -1,5 +1,5 @@
--- The views that are gathered of a struct's leaves are those that the file's graph has of raw nodes.
-use Rattle.std.proofs.Common.{◌≡◌, ◌≢◌, ◌<◌, inl, inr, ℕ, zero, suc, ◌+◌, Bool, true, false, cond, List, [], ◌∷◌, ◌++◌, length, Option, Some, None, refl, sym, ap, ◌∙◌, arith}
+-- What a struct's leaves say, as they are read, is what the file's graph has.
+use Rattle.std.proofs.Common.{◌≡◌, ◌≢◌, ◌<◌, inl, inr, ℕ, zero, suc, ◌+◌, Bool, List, [], ◌∷◌, ◌++◌, length, Option, Some, None, refl, sym, ap, ◌∙◌, arith}
 use Rattle.std.specs.Prelude.{All, map, filter, flat_map, slice_index_or, option_map}
 use Rattle.std.specs.List.{enumerate_from, cons_option}
 use Rattle.std.proofs.lemmas.Bool.{cases_lt}
@@ -8,7 +8,6 @@ use Rattle.std.proofs.lemmas.List.Elements.{filter-append, All-head, All-tail}
 use Rattle.std.proofs.lemmas.Grind.{flat_map-append}
 use Rattle.bl_num.specs.declared.number.Order.{Order}
 use Rattle.bl_num.specs.declared.number.Width.{Width}
-use Rattle.bl_format.specs.declared.file.Head.{Head}
 use Rattle.bl_format.specs.declared.catalogue.Catalogue.{Catalogue}
 use Rattle.bl_format.specs.declared.catalogue.TypeEntry.{TypeEntry}
 use Rattle.bl_format.specs.declared.layout.Kind.{Kind}
@@ -25,7 +24,7 @@ use Rattle.bl_members.specs.Leaf.{number_of_leaf, value_of_number}
 use Rattle.bl_members.proofs.Leaves.{named_leaves-numbers}
 use Rattle.bl_file.specs.declared.speakers.Speaker.{Speaker}
 use Rattle.bl_file.specs.Speakers.{basic_length, basic_lengths, said_by, speaker_with, speakers_of}
-use Rattle.bl_file.specs.Views.{is_raw, raw_target, raw_only, views_of_target, speaker_views, speakers_views}
+use Rattle.bl_file.specs.Heard.{views_of_target, leaf_heard, element_heard}
 
 -- ---- basic types
 
@@ -55,43 +54,37 @@ basic_at c t = elim (cases_lt t (length c.types)) [
 -- ---- one value
 
 -- the views that an element gives, by what its leaf says
-abbrev pub views_said : List Head → Target → Option RawKind → List View
-views_said nodes target None = []
-views_said nodes target (Some kind) = views_of_target kind (raw_target nodes target)
+abbrev pub views_said : Target → Option RawKind → List View
+views_said target None = []
+views_said target (Some kind) = views_of_target kind target
 
-kept_one : (n : ℕ) (kind : RawKind) (b : Bool)
-    → cond b (record { node = n; kind = kind } ∷ []) [] ≡ views_of_target kind (cond b (Some n) None)
-kept_one n kind true = refl
-kept_one n kind false = refl
+said_of : (n : ℕ) (said : Option RawKind)
+    → elim said [ None ↦ [] | Some k ↦ record { node = n; kind = k } ∷ [] ] ≡ views_said (Some n) said
+said_of n None = refl
+said_of n (Some kind) = refl
 
-kept_said : (nodes : List Head) (n : ℕ) (said : Option RawKind)
-    → raw_only nodes (elim said [ None ↦ [] | Some k ↦ record { node = n; kind = k } ∷ [] ]) ≡ views_said nodes (Some n) said
-kept_said nodes n None = refl
-kept_said nodes n (Some kind) = kept_one n kind (is_raw nodes n)
+said_none : (said : Option RawKind) → [] ≡ views_said None said
+said_none None = refl
+said_none (Some kind) = refl
 
-said_none : (nodes : List Head) (said : Option RawKind) → [] ≡ views_said nodes None said
-said_none nodes None = refl
-said_none nodes (Some kind) = refl
+-- the view of a pointer
+pub pointer_said : (c : Catalogue) (depth t : ℕ) (target : Target)
+    → view_by c (kinds.Pointer depth t) (Points target) ≡ views_said target (said_by (basic_lengths c) (kinds.Pointer depth t))
+pointer_said c depth t None = said_none (said_by (basic_lengths c) (kinds.Pointer depth t))
+pointer_said c depth t (Some n) =
+    said_of n (view_of_type c depth t)
+    ∙ ap (λ (o : Option ℕ). views_said (Some n) (view_of depth o)) (sym (basic_at c t))
 
--- what is kept of the view of a pointer
-pub kept_pointer : (c : Catalogue) (nodes : List Head) (depth t : ℕ) (target : Target)
-    → raw_only nodes (view_by c (kinds.Pointer depth t) (Points target))
-    ≡ views_said nodes target (said_by (basic_lengths c) (kinds.Pointer depth t))
-kept_pointer c nodes depth t None = said_none nodes (said_by (basic_lengths c) (kinds.Pointer depth t))
-kept_pointer c nodes depth t (Some n) =
-    kept_said nodes n (view_of_type c depth t)
-    ∙ ap (λ (o : Option ℕ). views_said nodes (Some n) (view_of depth o)) (sym (basic_at c t))
-
--- what is kept of the view of a value
-kept_value : (c : Catalogue) (nodes : List Head) (names : Naming Target) (kind : Kind) (value : Value Target) (v : ℕ)
+-- the view of a value
+value_said : (c : Catalogue) (names : Naming Target) (kind : Kind) (value : Value Target) (v : ℕ)
     → (kind ≢ kinds.Opaque → value ≡ value_of_number kind names v)
-    → raw_only nodes (view_by c kind value) ≡ views_said nodes (names v) (said_by (basic_lengths c) kind)
-kept_value c nodes names (kinds.Whole whole) value v is = refl
-kept_value c nodes names (kinds.Bits n) value v is = refl
-kept_value c nodes names (kinds.Pointer depth t) value v is =
-    ap (λ x. raw_only nodes (view_by c (kinds.Pointer depth t) x)) (is (λ e. absurd (cc)))
-    ∙ kept_pointer c nodes depth t (names v)
-kept_value c nodes names kinds.Opaque value v is = refl
+    → view_by c kind value ≡ views_said (names v) (said_by (basic_lengths c) kind)
+value_said c names (kinds.Whole whole) value v is = refl
+value_said c names (kinds.Bits n) value v is = refl
+value_said c names (kinds.Pointer depth t) value v is =
+    ap (λ x. view_by c (kinds.Pointer depth t) x) (is (λ e. absurd (cc)))
+    ∙ pointer_said c depth t (names v)
+value_said c names kinds.Opaque value v is = refl
 
 -- ---- lists
 
@@ -132,23 +125,23 @@ filter-flat_map p f (x ∷ xs) =
 -- ---- leaves
 
 -- the views of a leaf, by what it says
-abbrev leaf_views : List Head → Naming Target → Order → List ℕ → Leaf → Option RawKind → List View
-leaf_views nodes names order bytes x None = []
-leaf_views nodes names order bytes x (Some kind) = speaker_views nodes names order bytes (speaker_with x kind)
+abbrev leaf_views : Naming Target → Order → List ℕ → Leaf → Option RawKind → List View
+leaf_views names order bytes x None = []
+leaf_views names order bytes x (Some kind) = leaf_heard names order bytes (speaker_with x kind)
 
-views_by-said : (nodes : List Head) (names : Naming Target) (order : Order) (bytes : List ℕ) (x : Leaf) (said : Option RawKind)
-    → flat_map (λ k. views_said nodes (names (number_of_leaf order x bytes k)) said) (numbers_below x.count)
-    ≡ leaf_views nodes names order bytes x said
-views_by-said nodes names order bytes x None = flat_map-nothing x.count
-views_by-said nodes names order bytes x (Some kind) = refl
+views_by-said : (names : Naming Target) (order : Order) (bytes : List ℕ) (x : Leaf) (said : Option RawKind)
+    → flat_map (λ k. views_said (names (number_of_leaf order x bytes k)) said) (numbers_below x.count)
+    ≡ leaf_views names order bytes x said
+views_by-said names order bytes x None = flat_map-nothing x.count
+views_by-said names order bytes x (Some kind) = refl
 
-first_heard : (nodes : List Head) (names : Naming Target) (order : Order) (bytes : List ℕ) (x : Leaf) (said : Option RawKind) (others : List Speaker)
-    → leaf_views nodes names order bytes x said ++ speakers_views nodes names order bytes others
-    ≡ speakers_views nodes names order bytes (cons_option (option_map (speaker_with x) said) others)
-first_heard nodes names order bytes x None others = refl
-first_heard nodes names order bytes x (Some kind) others = refl
+first_heard : (names : Naming Target) (order : Order) (bytes : List ℕ) (x : Leaf) (said : Option RawKind) (others : List Speaker)
+    → leaf_views names order bytes x said ++ element_heard names order others bytes
+    ≡ element_heard names order (cons_option (option_map (speaker_with x) said) others) bytes
+first_heard names order bytes x None others = refl
+first_heard names order bytes x (Some kind) others = refl
 
-module _ (c : Catalogue) (nodes : List Head) (names : Naming Target) (order : Order) (bytes : List ℕ) where
+module _ (c : Catalogue) (names : Naming Target) (order : Order) (bytes : List ℕ) where
   -- the elements of a leaf that isn't opaque have the values of their numbers
   abbrev pub HasNumbers : NamedLeaf → Type 0
   HasNumbers x =
@@ -158,39 +151,36 @@ module _ (c : Catalogue) (nodes : List Head) (names : Naming Target) (order : Or
   abbrev views_at : NamedLeaf → ℕ → List View
   views_at x k = view_by c x.kind (leaf_value names order bytes x k)
 
-  kept_leaf : (x : NamedLeaf) → HasNumbers x
-      → raw_only nodes (flat_map (views_at x) (numbers_below x.count))
-      ≡ leaf_views nodes names order bytes (leaf_of x) (said_by (basic_lengths c) x.kind)
-  kept_leaf x has =
-      filter-flat_map (λ (v : View). is_raw nodes v.node) (views_at x) (numbers_below x.count)
-      ∙ flat_map-below (λ k. raw_only nodes (views_at x k))
-      (λ k. views_said nodes (names (number_of_leaf order (leaf_of x) bytes k)) (said_by (basic_lengths c) x.kind)) x.count
-      (λ k lt. kept_value c nodes names x.kind (leaf_value names order bytes x k) (number_of_leaf order (leaf_of x) bytes k) (λ some. has some k lt))
-      ∙ views_by-said nodes names order bytes (leaf_of x) (said_by (basic_lengths c) x.kind)
+  heard_leaf : (x : NamedLeaf) → HasNumbers x
+      → flat_map (views_at x) (numbers_below x.count) ≡ leaf_views names order bytes (leaf_of x) (said_by (basic_lengths c) x.kind)
+  heard_leaf x has =
+      flat_map-below (views_at x)
+      (λ k. views_said (names (number_of_leaf order (leaf_of x) bytes k)) (said_by (basic_lengths c) x.kind)) x.count
+      (λ k lt. value_said c names x.kind (leaf_value names order bytes x k) (number_of_leaf order (leaf_of x) bytes k) (λ some. has some k lt))
+      ∙ views_by-said names order bytes (leaf_of x) (said_by (basic_lengths c) x.kind)
 
   cells_views : (x : NamedLeaf) (ks : List ℕ)
       → views_of c (map (λ k. record { leaf = x; at = k; value = leaf_value names order bytes x k }) ks) ≡ flat_map (views_at x) ks
   cells_views x [] = refl
   cells_views x (k ∷ ks) = ap (λ vs. views_at x k ++ vs) (cells_views x ks)
 
-  kept_cells : (i : ℕ) (xs : List NamedLeaf) → All HasNumbers xs
-      → raw_only nodes (views_of c (flat_map (λ (p : ℕ × NamedLeaf). map (λ k. record { leaf = p.1; at = k; value = leaf_value names order bytes p.1 k }) (numbers_below p.1.count)) (enumerate_from i xs)))
-      ≡ speakers_views nodes names order bytes (speakers_of (basic_lengths c) (map leaf_of xs))
-  kept_cells i [] all = refl
-  kept_cells i (x ∷ xs) all =
+  heard_cells : (i : ℕ) (xs : List NamedLeaf) → All HasNumbers xs
+      → views_of c (flat_map (λ (p : ℕ × NamedLeaf). map (λ k. record { leaf = p.1; at = k; value = leaf_value names order bytes p.1 k }) (numbers_below p.1.count)) (enumerate_from i xs))
+      ≡ element_heard names order (speakers_of (basic_lengths c) (map leaf_of xs)) bytes
+  heard_cells i [] all = refl
+  heard_cells i (x ∷ xs) all =
       let own : List Cell = map (λ k. record { leaf = x; at = k; value = leaf_value names order bytes x k }) (numbers_below x.count) in
       let others : List Cell = flat_map (λ (p : ℕ × NamedLeaf). map (λ k. record { leaf = p.1; at = k; value = leaf_value names order bytes p.1 k }) (numbers_below p.1.count)) (enumerate_from (i + 1) xs) in
-      ap (raw_only nodes) (flat_map-append (λ (y : Cell). view_by c y.leaf.kind y.value) own others)
-      ∙ filter-append (λ (v : View). is_raw nodes v.node) (views_of c own) (views_of c others)
-      ∙ ap (λ vs. raw_only nodes vs ++ raw_only nodes (views_of c others)) (cells_views x (numbers_below x.count))
-      ∙ ap (λ vs. vs ++ raw_only nodes (views_of c others)) (kept_leaf x (All-head HasNumbers x xs all))
-      ∙ ap (λ vs. leaf_views nodes names order bytes (leaf_of x) (said_by (basic_lengths c) x.kind) ++ vs) (kept_cells (i + 1) xs (All-tail HasNumbers x xs all))
-      ∙ first_heard nodes names order bytes (leaf_of x) (said_by (basic_lengths c) x.kind) (speakers_of (basic_lengths c) (map leaf_of xs))
+      flat_map-append (λ (y : Cell). view_by c y.leaf.kind y.value) own others
+      ∙ ap (λ vs. vs ++ views_of c others) (cells_views x (numbers_below x.count))
+      ∙ ap (λ vs. vs ++ views_of c others) (heard_leaf x (All-head HasNumbers x xs all))
+      ∙ ap (λ vs. leaf_views names order bytes (leaf_of x) (said_by (basic_lengths c) x.kind) ++ vs) (heard_cells (i + 1) xs (All-tail HasNumbers x xs all))
+      ∙ first_heard names order bytes (leaf_of x) (said_by (basic_lengths c) x.kind) (speakers_of (basic_lengths c) (map leaf_of xs))
 
-  -- the views of a struct's leaves are those that its cells have of raw nodes
-  pub speakers_views-cells : (w : Width) (s : ℕ) → HasLayout c w → length bytes ≡ struct_length c s
-      → speakers_views nodes names order bytes (speakers_of (basic_lengths c) (leaves_of c w s))
-      ≡ raw_only nodes (views_of c (struct_cells names order c w s bytes))
+  -- what a struct's leaves say is what its cells do
+  pub element_heard-cells : (w : Width) (s : ℕ) → HasLayout c w → length bytes ≡ struct_length c s
+      → element_heard names order (speakers_of (basic_lengths c) (leaves_of c w s)) bytes
+      ≡ views_of c (struct_cells names order c w s bytes)
   unfolding leaves_of cells
-  speakers_views-cells w s has len =
-      sym (kept_cells 0 (named_leaves c w s) (named_leaves-numbers c w s names order bytes has len))
+  element_heard-cells w s has len =
+      sym (heard_cells 0 (named_leaves c w s) (named_leaves-numbers c w s names order bytes has len))

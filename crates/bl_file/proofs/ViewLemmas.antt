@@ -20,7 +20,8 @@ use Rattle.bl_file.specs.declared.speakers.Speaker.{Speaker}
 use Rattle.bl_file.specs.declared.views.Sight.{Sight}
 use Rattle.bl_file.specs.Seen.{Namings}
 use Rattle.bl_file.specs.Speakers.{speaker_number}
-use Rattle.bl_file.specs.Views.{is_raw, raw_target, views_of_target, element_views, speaker_views, speakers_views, element_at, element_said, elements_said, head_said, node_at_said, nodes_said, AreInside}
+use Rattle.bl_file.specs.Heard.{views_of_target}
+use Rattle.bl_file.specs.Views.{is_raw, raw_target, element_views, speaker_views, speakers_views, element_at, element_said, elements_said, head_said, node_at_said, nodes_said, AreInside}
 use Rattle.bl_file.proofs.GroupLemmas.{enumerate-push}
 use Rattle.bl_file.proofs.ViewLaws.{flat_map-more}
 

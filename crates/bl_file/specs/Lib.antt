@@ -14,3 +14,4 @@ pub mod Speakers
 pub mod Pages
 pub mod Paged
 pub mod SpeakingNodes
+pub mod Heard

@@ -1,5 +1,5 @@
 -- The leaves of structs whose pointers say anything of raw nodes.
-use Rattle.std.specs.Prelude.{◌≤◌, ℕ, ◌+◌, ◌*◌, if◌then◌else◌, List, [], ◌∷◌, map, slice_index_or, Option, Some, None, option_map}
+use Rattle.std.specs.Prelude.{◌≢◌, ◌≤◌, ℕ, ◌+◌, ◌*◌, if◌then◌else◌, List, [], ◌∷◌, map, slice_index_or, Option, Some, None, option_map}
 use Rattle.std.specs.List.{filter_map}
 use Rattle.bl_num.specs.declared.number.Order.{Order}
 use Rattle.bl_num.specs.declared.number.Width.{Width}
@@ -9,6 +9,7 @@ use Rattle.bl_format.specs.declared.layout.Kind.{Kind}
 use Rattle.bl_format.specs.declared.layout.Kind.TheVariants as kinds
 use Rattle.bl_format.specs.declared.layout.Leaf.{Leaf}
 use Rattle.bl_format.specs.declared.raw.RawKind.{RawKind}
+use Rattle.bl_format.specs.declared.raw.RawKind.TheVariants.{Pair}
 use Rattle.bl_format.specs.Words.{part, contains}
 use Rattle.bl_format.specs.Layout.{Basic, IsWhole, IsFloat, IsVoid, basic_named, leaves_of, struct_numbers}
 use Rattle.bl_format.specs.Nodes.{view_of}
@@ -49,10 +50,12 @@ speakers_of basics leaves = filter_map (speaker_of basics) leaves
 abbrev pub struct_speakers : Catalogue → Width → List (Option ℕ) → List (List Speaker)
 struct_speakers c w basics = map (λ s. speakers_of basics (leaves_of c w s)) (struct_numbers c)
 
--- a leaf that says anything stands in so many bytes, and its elements are as long as a number
+-- a leaf that says anything stands in so many bytes, its elements are as long as a number, and it says of none that it is a
+-- pair
 pub record IsHeard (n : ℕ) (x : Speaker) : Type 0 where
   pub fits : x.offset + x.size * x.count ≤ n
   pub number : IsWholeLength x.size
+  pub no_pair : x.kind ≢ Pair
 
 -- the number in element k of a leaf that says anything, in the bytes of an element of its struct
 abbrev pub speaker_number : Order → Speaker → List ℕ → ℕ → ℕ

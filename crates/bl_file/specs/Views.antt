@@ -1,5 +1,5 @@
 -- What pointers say of raw nodes, as it is gathered: views of struct nodes are left out.
-use Rattle.std.specs.Prelude.{◌≡◌, ◌<◌, ℕ, ◌+◌, ◌*◌, ◌==◌, nat_le, if◌then◌else◌, Bool, false, List, [], ◌∷◌, length, map, flat_map, filter, slice_get, take, get_or, All, Option, Some, None}
+use Rattle.std.specs.Prelude.{◌≡◌, ◌<◌, ℕ, ◌+◌, ◌*◌, ◌==◌, nat_le, if◌then◌else◌, Bool, false, List, [], length, map, flat_map, filter, slice_get, take, get_or, All, Option, Some, None}
 use Rattle.std.specs.List.{enumerate_from}
 use Rattle.bl_num.specs.declared.number.Order.{Order}
 use Rattle.bl_format.specs.declared.file.Head.{Head}
@@ -16,9 +16,10 @@ use Rattle.bl_format.specs.Graph.{Target, Naming}
 use Rattle.bl_selection.specs.Selection.{no_head}
 use Rattle.bl_file.specs.declared.speakers.Speaker.{Speaker}
 use Rattle.bl_file.specs.declared.views.Sight.{Sight}
+use Rattle.bl_file.specs.Heard.{AreHeard, views_of_target}
 use Rattle.bl_file.specs.Outlines.{IsNodeIn}
 use Rattle.bl_file.specs.Seen.{Namings}
-use Rattle.bl_file.specs.Speakers.{basic_lengths, struct_speakers, speaker_number}
+use Rattle.bl_file.specs.Speakers.{speaker_number}
 
 -- ---- raw nodes
 
@@ -41,11 +42,6 @@ abbrev pub raw_only : List Head → List View → List View
 raw_only nodes views = filter (λ (v : View). is_raw nodes v.node) views
 
 -- ---- views
-
--- a view of what is named, if anything is
-abbrev pub views_of_target : RawKind → Target → List View
-views_of_target kind None = []
-views_of_target kind (Some n) = record { node = n; kind = kind } ∷ []
 
 -- the views of the first n elements of a leaf
 abbrev pub element_views : List Head → Naming Target → Order → List ℕ → Speaker → ℕ → List View
@@ -106,12 +102,12 @@ kinds_by nodes views = map (λ (p : ℕ × Head). kind_by p.1 (viewed_kind views
 abbrev pub AreInside : List Head → List View → Type 0
 AreInside nodes views = All (λ (v : View). v.node < length nodes) views
 
--- by what pointers are read is that of a file of so many bytes: its nodes, and what its catalogue's structs say
+-- by what pointers are read is that of a file of so many bytes: its nodes, and leaves that can be heard in its structs
 pub record IsSight (s : Sight) (n : ℕ) : Type 0 where
   pub width : s.layout.now.width ≡ s.header.now.width
   pub has_layout : HasLayout s.layout.now.catalogue s.layout.now.width
   pub nodes : All (IsNodeIn s.header.now s.layout.now.catalogue n) s.nodes.now
-  pub speakers : s.speakers.now ≡ struct_speakers s.layout.now.catalogue s.layout.now.width (basic_lengths s.layout.now.catalogue)
+  pub heard : AreHeard s.layout.now.catalogue s.speakers.now
 
 -- the views of node k, which has this head
 abbrev pub head_said : Namings → Sight → List ℕ → ℕ → Head → List View

@@ -4,10 +4,11 @@ ghost use Rattle.bl_format.specs.Limits.{most_blocks};
 ghost use Rattle.bl_format.specs.Nodes.{is_pair_code};
 ghost use Rattle.bl_file.specs.Calls.{Stays, Tells, IsOpen};
 ghost use Rattle.bl_file.specs.Frames.{CountsReads};
+ghost use Rattle.bl_file.specs.Heard.{views_heard};
 ghost use Rattle.bl_file.specs.Opening.{kinds_in};
 ghost use Rattle.bl_file.specs.Outlines.{IsNodeIn, ArePairsLong, file_with, marks_of};
 ghost use Rattle.bl_file.specs.Seen.{kinds_seen, views_seen};
-ghost use Rattle.bl_file.specs.Views.{AreInside, viewed_or_bytes, kind_by, kinds_by};
+ghost use Rattle.bl_file.specs.Views.{AreInside, IsSight, viewed_or_bytes, kind_by, kinds_by};
 
 use crate::Payload;
 use crate::basics::basic_lengths;
@@ -26,7 +27,7 @@ use std::alloc::Global;
 const LONGEST_TYPE: usize = 65_535;
 
 /// The kind of each node as raw data, by what addresses name from each; a struct node counts as
-/// bytes. One element of a node is in memory at a time, and the views of raw nodes.
+/// bytes.
 pub fn raw_kinds<S: Shelf, P: Payload, T: Targets>(
     alloc: Global,
     payload: &mut P,
@@ -53,23 +54,51 @@ pub fn raw_kinds<S: Shelf, P: Payload, T: Targets>(
 {
     let basics = basic_lengths(alloc, layout.catalogue())?;
     let speakers = struct_speakers(alloc, layout, &basics)?;
-    let mut buffer = vec![in alloc; 0; LONGEST_TYPE]?;
-    let mut seen = Vec::new(alloc);
     let sight = Sight {
         header,
         layout,
         nodes,
         speakers: &speakers,
     };
+    kinds_heard(alloc, payload, shelf, &sight, targets)
+}
+
+/// The kind of each node as raw data, by what addresses name from each, where it is given which
+/// leaves of each struct say anything; a struct node counts as bytes. One element of a node is in
+/// memory at a time, and the views of raw nodes.
+pub fn kinds_heard<S: Shelf, P: Payload, T: Targets>(
+    alloc: Global,
+    payload: &mut P,
+    shelf: &mut S,
+    sight: &Sight,
+    targets: &T,
+) -> Result<Vec<RawKind>, ShelfFault>
+    requires sight { IsSight sight.now (P.file_size payload.old) }
+    requires small { P.file_size payload.old < 2 ^ 63 }
+    requires few { length sight.now.nodes.now < 2 ^ 32 }
+    requires count { T.count targets.now ≡ length sight.now.nodes.now }
+    requires held { IsOpen S.Shelf P.Payload shelf.old payload.old }
+    ensures len { IfOk result (λ kinds. length kinds.items ≡ length sight.now.nodes.now) }
+    ensures kinds { IfOk result (λ kinds.
+        Tells S.Shelf P.Payload shelf.old payload.old (λ b. kinds.items
+        ≡ kinds_seen sight.now.nodes.now
+        (views_heard sight.now.speakers.now (T.names targets.now) sight.now.header.now
+        sight.now.layout.now.catalogue sight.now.nodes.now b))) }
+    ensures pairs { IfOk result (λ kinds. ArePairsLong sight.now.nodes.now kinds.items) }
+    ensures stays { Stays S.Shelf P.Payload shelf.old shelf.new payload.old payload.new }
+    ensures cause { CountsReads S.Shelf shelf.old shelf.new result }
+{
+    let mut buffer = vec![in alloc; 0; LONGEST_TYPE]?;
+    let mut seen = Vec::new(alloc);
     match nodes_said(
-        &sight,
+        sight,
         targets,
         payload,
         shelf,
         buffer.as_mut_slice(),
         &mut seen,
     ) {
-        Ok(()) => kinds_by(alloc, nodes, &seen),
+        Ok(()) => kinds_by(alloc, sight.nodes, &seen),
         Err(fault) => Err(fault),
     }
 }

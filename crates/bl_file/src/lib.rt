@@ -19,12 +19,16 @@ mod targets;
 mod views;
 mod whole;
 
+pub use basics::basic_lengths;
 pub use bl_format::{BlockFault, Head, HeadFault, Header, LayoutFault, RawKind, SdnaFault};
 pub use fault::OpenFault;
-pub use kinds::raw_kinds;
+pub use kinds::{kinds_heard, raw_kinds};
+pub use nodes::ids_of;
 pub use opened::open;
 pub use outline::{Opened, Outline};
 pub use paged::PagedPayload;
 pub use payload::Payload;
+pub use speakers::{Speaker, said_by};
 pub use targets::{FileTargets, Targets};
+pub use views::Sight;
 pub use whole::WholePayload;

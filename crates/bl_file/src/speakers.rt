@@ -64,8 +64,8 @@ fn speaker_of(basics: &[Option<u8>], leaf: &Leaf) -> Option<Speaker>
     })
 }
 
-// What the pointers of a leaf's kind say.
-fn said_by(basics: &[Option<u8>], kind: Kind) -> Option<RawKind>
+/// What the pointers of a leaf's kind say of what they name, by the bytes of basic types.
+pub fn said_by(basics: &[Option<u8>], kind: Kind) -> Option<RawKind>
     ensures { result ≡ said_by basics.now kind }
 {
     match kind {

@@ -1,7 +1,8 @@
 // What pointers say of raw nodes. Views of struct nodes aren't kept.
 ghost use Rattle.std.specs.Prelude.{◌≡◌, ◌<◌, ◌++◌, All, None, OnOk, length};
+ghost use Rattle.bl_file.specs.Heard.{views_of_target};
 ghost use Rattle.bl_file.specs.Speakers.{IsHeard};
-ghost use Rattle.bl_file.specs.Views.{is_raw, raw_target, element_views, speaker_views, speakers_views, views_of_target};
+ghost use Rattle.bl_file.specs.Views.{is_raw, raw_target, element_views, speaker_views, speakers_views};
 
 use crate::speakers::{Speaker, speaker_number};
 use crate::targets::Targets;

@@ -31,3 +31,4 @@ pub use basic_types::{Basic, Content};
 pub use bl_format::{Kind, LayoutFault, Leaf, PathStep, Shape};
 pub use copy::copy_of;
 pub use layout::{Layout, RefusedCatalogue};
+pub use member_names::member_identifier;

@@ -2,10 +2,13 @@ ghost use Rattle.std.specs.Prelude.{IfOk, map, if◌then◌else◌, slice_index,
 ghost use Rattle.std.specs.List.{prefix_len};
 ghost use Rattle.std.specs.Char.{is_ascii_digit};
 ghost use Rattle.std.specs.Str.{byte};
+ghost use Rattle.bl_format.specs.Layout.{name_of};
 ghost use Rattle.bl_format.specs.Members.{member_name, other_name, plain_name, function_name, is_word_byte, number_in};
 ghost use Rattle.bl_layout.specs.MemberNames.{name_parts, entry_of_name, shape_of_name, bounded_count, bounded_shape, bracket_count, opens_number};
 
+use bl_format::Catalogue;
 use bl_num::Text;
+use bl_sdna::member_name;
 use std::alloc::{AllocError, Global};
 
 /// The most elements that a member may have.
@@ -79,6 +82,16 @@ pub fn identifier_in(name: &[u8], shape: NameShape) -> &[u8]
     ensures { result.now ≡ (name_parts name.now).identifier }
 {
     &name[shape.identifier_at..shape.identifier_at + shape.identifier_len]
+}
+
+/// The identifier in a member's name, and nothing where there is no member of the numbers or its name
+/// has no form.
+#[tactic(auto, unfolding(bl_format::specs::Layout::name_of))]
+pub fn member_identifier(catalogue: &Catalogue, s: u32, member: u32) -> &[u8]
+    ensures { result.now ≡ (name_of catalogue.now s member).identifier }
+{
+    let name = member_name(catalogue, s, member);
+    identifier_in(name, entry_of_name(name).shape)
 }
 
 /// The key in a name, by what the name says.

@@ -15,4 +15,7 @@ pub mod LeavesWritten
 pub mod MeetingLaws
 pub mod PlanLaws
 pub mod StepsBehind
+pub mod StraightLaws
 pub mod WayLemmas
+pub mod LeavesFound
+pub mod FatesCarried

@@ -311,9 +311,3 @@ kept_fits c w s i kept x y has there lt is kept_is =
     let small = struct_length-small c s (IsCatalogue-can_be_read c has.can_be_read) there in
     let same : kept * x.size ≡ kept * z.size = ap (λ (v : Leaf). kept * v.size) is in
     omega (arith, all, turned, within, small, same)
-
--- what fits in a struct fits in a file
-pub fits_short : (c : Catalogue) (w : Width) (s : ℕ) (x : Step) → HasLayout c w → s < length c.structs → StepFits (struct_length c s) x → StepFits (2 ^ 31 - 1) x
-fits_short c w s x has there fits =
-    let small = struct_length-small c s (IsCatalogue-can_be_read c has.can_be_read) there in
-    record { inside = omega (arith, small, fits.inside); source = fits.source; target = fits.target }

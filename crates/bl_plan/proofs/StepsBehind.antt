@@ -1,7 +1,8 @@
 -- What steps write one behind another, and what joined ones do.
-use Rattle.std.proofs.Common.{◌≡◌, ℕ, zero, suc, ◌+◌, ◌-◌, ◌*◌, ◌≤◌, Bool, true, false, cond, All, List, [], ◌∷◌, ◌++◌, length, refl, sym, ap, subst, ◌∙◌, append_assoc, append-nil, arith, inl, inr, eqb-true}
-use Rattle.std.specs.Prelude.{◌==◌, ◌&&◌, flat_map}
+use Rattle.std.proofs.Common.{◌≡◌, ℕ, zero, suc, ◌+◌, ◌-◌, ◌*◌, ◌^◌, ◌≤◌, ◌<◌, Bool, true, false, cond, All, List, [], ◌∷◌, ◌++◌, length, refl, sym, ap, subst, ◌∙◌, append_assoc, append-nil, arith, inl, inr, eqb-true}
+use Rattle.std.specs.Prelude.{◌==◌, ◌&&◌, nat_lt, flat_map}
 use Rattle.std.proofs.Math.Nat.{add-mul}
+use Rattle.std.proofs.lemmas.Bool.{ltb-true}
 use Rattle.std.proofs.lemmas.List.{replicate-append-replicate}
 use Rattle.std.proofs.lemmas.List.Elements.{All-nil, All-cons, All-head, All-tail}
 use Rattle.bl_num.specs.declared.number.Order.{Order}
@@ -53,6 +54,7 @@ pub record IsContinued (a b : Step) : Type 0 where
   pub second : b.carry ≡ Kept size
   pub from : a.from + a.count * size ≡ b.from
   pub to : a.to + a.count * size ≡ b.to
+  pub count : a.count + b.count < 2 ^ 32
 
 pub both_true : (p q : Bool) → (p && q) ≡ true → (p ≡ true) × (q ≡ true)
 both_true true q is = (refl, is)
@@ -60,7 +62,8 @@ both_true false q is = absurd (cc)
 
 continued_by : (a b : Step) (c d : Carry) → a.carry ≡ c → b.carry ≡ d → continues_by a b c d ≡ true → IsContinued a b
 continued_by a b (Kept m) (Kept n) first second is =
-    let one = both_true (m == n && (a.from + a.count * m) == b.from) ((a.to + a.count * m) == b.to) is in
+    let few = both_true (m == n && (a.from + a.count * m) == b.from && (a.to + a.count * m) == b.to) (nat_lt (a.count + b.count) (2 ^ 32)) is in
+    let one = both_true (m == n && (a.from + a.count * m) == b.from) ((a.to + a.count * m) == b.to) few.0 in
     let two = both_true (m == n) ((a.from + a.count * m) == b.from) one.0 in
     record {
       size = m;
@@ -68,13 +71,15 @@ continued_by a b (Kept m) (Kept n) first second is =
       second = second ∙ ap Kept (sym (eqb-true m n two.0));
       from = eqb-true (a.from + a.count * m) b.from two.1;
       to = eqb-true (a.to + a.count * m) b.to one.1;
+      count = ltb-true (a.count + b.count) (2 ^ 32) few.1;
     }
 continued_by a b (Kept m) (Cast s t) first second is = absurd (cc)
 continued_by a b (Kept m) (Pointers s t) first second is = absurd (cc)
 continued_by a b (Cast s t) d first second is = absurd (cc)
 continued_by a b (Pointers s t) d first second is = absurd (cc)
 
-is_continued : (a b : Step) → continues a b ≡ true → IsContinued a b
+-- so it is where the test says so
+pub is_continued : (a b : Step) → continues a b ≡ true → IsContinued a b
 is_continued a b is = continued_by a b a.carry b.carry refl refl is
 
 -- elements of a size are so many at most as the bytes in which they stand

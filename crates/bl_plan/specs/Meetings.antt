@@ -1,5 +1,5 @@
 -- What becomes of two leaves that meet, and how steps are joined: what the code of plans computes. This project's own.
-use Rattle.std.specs.Prelude.{ℕ, ◌+◌, ◌*◌, ◌==◌, ◌&&◌, Bool, true, false, if◌then◌else◌, List, [], ◌∷◌, get_or, Option, Some, None}
+use Rattle.std.specs.Prelude.{ℕ, ◌+◌, ◌*◌, ◌^◌, ◌==◌, ◌&&◌, nat_lt, Bool, true, false, if◌then◌else◌, List, [], ◌∷◌, get_or, Option, Some, None}
 use Rattle.bl_num.specs.declared.number.Whole.{Whole}
 use Rattle.bl_num.specs.declared.number.Width.{Width}
 use Rattle.bl_format.specs.declared.layout.Kind.{Kind}
@@ -60,9 +60,11 @@ meeting_of v w xs (Some j) y = meeting_at v w (get_or xs j no_leaf) y
 
 -- ---- joined steps
 
--- a second step keeps elements of the same size as a first one, and reads and writes just behind it
+-- a second step keeps elements of the same size as a first one, and reads and writes just behind it; and 32 bits can
+-- count the elements of both
 abbrev pub continues_by : Step → Step → Carry → Carry → Bool
-continues_by a b (Kept m) (Kept n) = m == n && (a.from + a.count * m) == b.from && (a.to + a.count * m) == b.to
+continues_by a b (Kept m) (Kept n) =
+    m == n && (a.from + a.count * m) == b.from && (a.to + a.count * m) == b.to && nat_lt (a.count + b.count) (2 ^ 32)
 continues_by a b _ _ = false
 
 -- the same by how they carry elements

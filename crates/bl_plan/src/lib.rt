@@ -4,16 +4,19 @@
 
 mod contents;
 mod fates;
+mod joining;
 mod meeting;
 mod members;
+mod met_leaves;
 mod names;
 mod plans;
 mod source_members;
-mod source_places;
 mod steps;
+mod straight;
 
 pub use bl_selection::Fate;
 pub use fates::member_fate;
+pub use met_leaves::source_places;
 pub use names::{known_members, known_structs};
 pub use plans::PlanFault;
 pub use steps::{Carry, Plan, Step};

@@ -1,25 +1,28 @@
-ghost use Rattle.std.specs.Prelude.{◌≡◌, ◌<◌, ◌+◌, ◌-◌, ◌^◌, ◌++◌, None, Some, All, IfOk, IfErr, OnOk, length, map};
+ghost use Rattle.std.specs.Prelude.{◌≡◌, ◌<◌, None, Some, IfOk, IfErr, OnOk, length, map};
 ghost use Rattle.bl_format.specs.Layout.{named_leaves, struct_name};
 ghost use Rattle.bl_selection.specs.Fate.{direct_member, first_clash};
 ghost use Rattle.bl_plan.specs.declared.plans.PlanFault.TheVariants as faults;
-ghost use Rattle.bl_plan.specs.Meetings.{continues, joined, leaf_at, meeting_of, one_or_two, with_step};
+ghost use Rattle.bl_plan.specs.Meetings.{leaf_at, meeting_of};
 ghost use Rattle.bl_plan.specs.Plans.{IsFaultOf, IsPlanOf};
 ghost use Rattle.bl_plan.specs.SourcePlaces.{source_place};
-ghost use Rattle.bl_plan.specs.Steps.{StepFits};
 
+use crate::joining::push_step;
 use crate::meeting::{Meeting, meeting_at};
 use crate::members::{direct_member, leaf_count};
-use crate::source_places::source_places;
-use crate::steps::{Carry, Plan, Step};
+use crate::met_leaves::source_places;
+use crate::steps::{Plan, Step};
 use bl_layout::Layout;
 use bl_num::{Items, NoMemory};
 use std::alloc::{AllocError, Global};
+use thiserror::Error;
 
 /// Why elements of a struct can't be carried over.
-#[derive(Clone, Copy, Debug, PartialEq, Eq)]
+#[derive(Clone, Copy, Debug, PartialEq, Eq, Error)]
 pub enum PlanFault {
     /// A float meets another number, or a float of another type, at a member of the target's.
+    #[error("member {member} of struct {t} would turn a float into another number")]
     FloatCast { t: u32, member: u32 },
+    #[error("out of memory")]
     NoMemory,
 }
 
@@ -131,57 +134,5 @@ fn clash_at(to: &Layout, t: u32, leaf: u32) -> PlanFault
     PlanFault::FloatCast {
         t: direct.s,
         member: direct.member,
-    }
-}
-
-// Puts a step behind others, as one with the last of them where that is possible.
-fn push_step(steps: &mut Vec<Step>, step: Step) -> Result<(), NoMemory>
-    requires steps { All (StepFits (2 ^ 31 - 1)) steps.old.items }
-    requires step { StepFits (2 ^ 31 - 1) step }
-    ensures { OnOk result (steps.new.items ≡ with_step steps.old.items step) }
-{
-    match steps.pop() {
-        Some(last) => push_both(steps, last, step),
-        None => Ok(steps.push(step)?),
-    }
-}
-
-// Puts two steps behind others, as one where that is possible.
-fn push_both(steps: &mut Vec<Step>, first: Step, second: Step) -> Result<(), NoMemory>
-    requires { first.count + second.count < 2 ^ 32 }
-    ensures { OnOk result (steps.new.items ≡ steps.old.items ++ one_or_two first second) }
-{
-    if continues(first, second) {
-        steps.push(joined(first, second))?;
-    } else {
-        steps.push(first)?;
-        steps.push(second)?;
-    }
-    Ok(())
-}
-
-// Whether a step reads and writes just behind another, and both keep elements of one size.
-fn continues(first: Step, second: Step) -> bool
-    ensures { result ≡ continues first second }
-{
-    match (first.carry, second.carry) {
-        (Carry::Kept(size), Carry::Kept(next)) => {
-            let len = u64::from(first.count) * u64::from(size);
-            size == next
-                && u64::from(first.from) + len == u64::from(second.from)
-                && u64::from(first.to) + len == u64::from(second.to)
-        }
-        _ => false,
-    }
-}
-
-// Both as one.
-fn joined(first: Step, second: Step) -> Step
-    requires { first.count + second.count < 2 ^ 32 }
-    ensures { result ≡ joined first second }
-{
-    Step {
-        count: first.count + second.count,
-        ..first
     }
 }

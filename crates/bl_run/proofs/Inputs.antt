@@ -40,6 +40,24 @@ none_of_two None b is = (refl, sym (first_of_one b) ∙ is)
 pub two_pass : (a b : Option Ending) → a ≡ None → b ≡ None → first_ending (a ∷ b ∷ []) ≡ None
 two_pass a b first second = rw (first, second) refl
 
+-- the first of four is that of the first two, or, where these give none, one of the others
+pub first_of_four : (a b x y : Option Ending) (e : Ending) → first_ending (a ∷ b ∷ x ∷ y ∷ []) ≡ Some e
+    → (first_ending (a ∷ b ∷ []) ≡ Some e) ⊎ ((a ≡ None) × (b ≡ None) × ((x ≡ Some e) ⊎ (y ≡ Some e)))
+first_of_four (Some u) b x y e is = inl is
+first_of_four None (Some u) x y e is = inl is
+first_of_four None None (Some u) y e is = inr (refl, refl, inl is)
+first_of_four None None None y e is = inr (refl, refl, inr (sym (first_of_one y) ∙ is))
+
+-- where the first of four gives none, none of them does
+pub none_of_four : (a b x y : Option Ending) → first_ending (a ∷ b ∷ x ∷ y ∷ []) ≡ None → (a ≡ None) × (b ≡ None) × (x ≡ None) × (y ≡ None)
+none_of_four (Some u) b x y is = absurd (cc)
+none_of_four None (Some u) x y is = absurd (cc)
+none_of_four None None (Some u) y is = absurd (cc)
+none_of_four None None None y is = (refl, refl, refl, sym (first_of_one y) ∙ is)
+
+pub four_pass : (a b x y : Option Ending) → a ≡ None → b ≡ None → x ≡ None → y ≡ None → first_ending (a ∷ b ∷ x ∷ y ∷ []) ≡ None
+four_pass a b x y first second third fourth = rw (first, second, third, fourth) refl
+
 -- ---- where no check gives an ending
 
 -- where the check of an input passes, opening it has no fault
@@ -76,10 +94,23 @@ opening_passed used held input passes = passed_by used held input (get held inpu
 pub input_passed : (held : Held) (input : List ℕ) → first_ending (input_checks held input) ≡ None → IsPassed held input
 input_passed held input passes = opening_passed 0 held input (sym (first_of_one (opening_check 0 held input)) ∙ passes)
 
+-- the same of what is held under the name
+pub record IsRead (held : Held) (input : List ℕ) : Type 0 where
+  pub is_held : get held input ≡ Some (bytes_held held input)
+  pub accepted : Accepted (bytes_held held input) (file_in (bytes_held held input))
+  pub few : length (file_in (bytes_held held input)).nodes < most_blocks
+
+pub read_of : (held : Held) (input : List ℕ) → IsPassed held input → IsRead held input
+read_of held input passed = record {
+  is_held = passed.is_held ∙ ap Some (sym passed.bytes);
+  accepted = subst (λ (b : List ℕ). Accepted b (file_in b)) (sym passed.bytes) passed.accepted;
+  few = subst (λ (b : List ℕ). length (file_in b).nodes < most_blocks) (sym passed.bytes) passed.few;
+}
+
 -- ---- what is accepted passes
 
 -- an input that is held and accepted, and within the limits behind so many bytes, passes its check
-readable_passes : (used : ℕ) (held : Held) (input : List ℕ) (is : IsReadable held input) → used + length is.b ≤ most_input_bytes → opening_check used held input ≡ None
+pub readable_passes : (used : ℕ) (held : Held) (input : List ℕ) (is : IsReadable held input) → used + length is.b ≤ most_input_bytes → opening_check used held input ≡ None
 readable_passes used held input is small =
     let passes : open_fault used (Some is.b) ≡ None = accepted_opens used is.b is.file small is.accepted.accepted is.accepted.few in
     rw (is.is_held, passes) refl
@@ -104,7 +135,7 @@ two_able held input other effect can =
 -- ---- an ending has its cause
 
 -- an outcome by some checks is such, where what the first of them gives is such
-ended_by : (first : Option Ending) (effect : Effect) (Such : Ending → Type 0) → ((e : Ending) → first ≡ Some e → Such e) → IfErr (unless_ending first effect) Such
+pub ended_by : (first : Option Ending) (effect : Effect) (Such : Ending → Type 0) → ((e : Ending) → first ≡ Some e → Such e) → IfErr (unless_ending first effect) Such
 ended_by (Some e) effect Such so = so e refl
 ended_by None effect Such so = tt
 
@@ -128,19 +159,24 @@ input_caused held input effect =
     ended_by (first_ending (input_checks held input)) effect (HasInputCause 0 held input)
     (λ e is. check_caused 0 held input e (sym (first_of_one (opening_check 0 held input)) ∙ is))
 
--- and one by the checks of two has it in one of them
-pub two_caused : (held : Held) (input other : List ℕ) (effect : Effect)
-    → IfErr (unless_ending (first_ending (two_input_checks held input other)) effect) (λ e. HasInputCause 0 held input e ⊎ HasInputCause (length (bytes_held held input)) held other e)
-two_caused held input other effect =
-    ended_by (first_ending (two_input_checks held input other)) effect (λ e. HasInputCause 0 held input e ⊎ HasInputCause used held other e)
-    (λ e is. by_check e (first_of_two (opening_check 0 held input) (opening_check used held other) e is))
+-- the ending of the checks of two has its cause in one of them
+pub two_check_caused : (held : Held) (input other : List ℕ) (e : Ending) → first_ending (two_input_checks held input other) ≡ Some e
+    → HasInputCause 0 held input e ⊎ HasInputCause (length (bytes_held held input)) held other e
+two_check_caused held input other e is = by_check (first_of_two (opening_check 0 held input) (opening_check used held other) e is)
   where
     used : ℕ
     used = length (bytes_held held input)
 
-    by_check : (e : Ending) → (opening_check 0 held input ≡ Some e) ⊎ (opening_check used held other ≡ Some e) → HasInputCause 0 held input e ⊎ HasInputCause used held other e
-    by_check e (inl is) = inl (check_caused 0 held input e is)
-    by_check e (inr is) = inr (check_caused used held other e is)
+    by_check : (opening_check 0 held input ≡ Some e) ⊎ (opening_check used held other ≡ Some e) → HasInputCause 0 held input e ⊎ HasInputCause used held other e
+    by_check (inl is) = inl (check_caused 0 held input e is)
+    by_check (inr is) = inr (check_caused used held other e is)
+
+-- so has an outcome by them
+pub two_caused : (held : Held) (input other : List ℕ) (effect : Effect)
+    → IfErr (unless_ending (first_ending (two_input_checks held input other)) effect) (λ e. HasInputCause 0 held input e ⊎ HasInputCause (length (bytes_held held input)) held other e)
+two_caused held input other effect =
+    ended_by (first_ending (two_input_checks held input other)) effect
+    (λ e. HasInputCause 0 held input e ⊎ HasInputCause (length (bytes_held held input)) held other e) (two_check_caused held input other)
 
 -- ---- an outcome by the checks of inputs is the command's own ending
 
@@ -161,7 +197,7 @@ unfolding open_fault
 no_device used None fault is = let same : opens.Absent ≡ fault = cc in λ device. cc
 no_device used (Some b) fault is = λ device. absurd (subst (HasOpenFault used b) device (open_refused used b fault is))
 
-check_own : (used : ℕ) (held : Held) (input : List ℕ) (e : Ending) → opening_check used held input ≡ Some e → IsOwnEnding (λ name. name ≡ input) e
+pub check_own : (used : ℕ) (held : Held) (input : List ℕ) (e : Ending) → opening_check used held input ≡ Some e → IsOwnEnding (λ name. name ≡ input) e
 check_own used held input e is = by_fault (open_fault used (get held input)) refl is
   where
     by_fault : (o : Option OpenFault) → open_fault used (get held input) ≡ o → option_map (open_ending input) o ≡ Some e → IsOwnEnding (λ name. name ≡ input) e
@@ -176,7 +212,7 @@ input_own held input effect =
     (λ e is. check_own 0 held input e (sym (first_of_one (opening_check 0 held input)) ∙ is))
 
 -- of a command that may miss more
-own_wider : (P Q : List ℕ → Type 0) → ((file : List ℕ) → P file → Q file) → (e : Ending) → IsOwnEnding P e → IsOwnEnding Q e
+pub own_wider : (P Q : List ℕ → Type 0) → ((file : List ℕ) → P file → Q file) → (e : Ending) → IsOwnEnding P e → IsOwnEnding Q e
 own_wider P Q wider endings.NoCommand is = tt
 own_wider P Q wider endings.NoMemory is = tt
 own_wider P Q wider (endings.Absent file) is = wider file is
@@ -187,11 +223,9 @@ own_wider P Q wider (endings.FloatCast owner member) is = tt
 own_wider P Q wider (endings.PastLimit quantity count) is = tt
 own_wider P Q wider endings.Sink is = absurd is
 
-pub two_own : (held : Held) (input other : List ℕ) (effect : Effect)
-    → IfErr (unless_ending (first_ending (two_input_checks held input other)) effect) (IsOwnEnding (λ name. (name ≡ input) ⊎ (name ≡ other)))
-two_own held input other effect =
-    ended_by (first_ending (two_input_checks held input other)) effect (IsOwnEnding IsEither)
-    (λ e is. by_check e (first_of_two (opening_check 0 held input) (opening_check used held other) e is))
+pub two_check_own : (held : Held) (input other : List ℕ) (e : Ending) → first_ending (two_input_checks held input other) ≡ Some e
+    → IsOwnEnding (λ name. (name ≡ input) ⊎ (name ≡ other)) e
+two_check_own held input other e is = by_check (first_of_two (opening_check 0 held input) (opening_check used held other) e is)
   where
     used : ℕ
     used = length (bytes_held held input)
@@ -199,14 +233,19 @@ two_own held input other effect =
     IsEither : List ℕ → Type 0
     IsEither name = (name ≡ input) ⊎ (name ≡ other)
 
-    by_check : (e : Ending) → (opening_check 0 held input ≡ Some e) ⊎ (opening_check used held other ≡ Some e) → IsOwnEnding IsEither e
-    by_check e (inl is) = own_wider (λ name. name ≡ input) IsEither (λ name same. inl same) e (check_own 0 held input e is)
-    by_check e (inr is) = own_wider (λ name. name ≡ other) IsEither (λ name same. inr same) e (check_own used held other e is)
+    by_check : (opening_check 0 held input ≡ Some e) ⊎ (opening_check used held other ≡ Some e) → IsOwnEnding IsEither e
+    by_check (inl is) = own_wider (λ name. name ≡ input) IsEither (λ name same. inl same) e (check_own 0 held input e is)
+    by_check (inr is) = own_wider (λ name. name ≡ other) IsEither (λ name same. inr same) e (check_own used held other e is)
+
+pub two_own : (held : Held) (input other : List ℕ) (effect : Effect)
+    → IfErr (unless_ending (first_ending (two_input_checks held input other)) effect) (IsOwnEnding (λ name. (name ≡ input) ⊎ (name ≡ other)))
+two_own held input other effect =
+    ended_by (first_ending (two_input_checks held input other)) effect (IsOwnEnding (λ name. (name ≡ input) ⊎ (name ≡ other))) (two_check_own held input other)
 
 -- ---- how a command's checks end it
 
 -- an ending that is that of a check is that of what gives the same
-checked_by : (first first' : Option Ending) (e : Ending) → (first ≡ Some e → first' ≡ Some e) → IsChecked first e → IsChecked first' e
+pub checked_by : (first first' : Option Ending) (e : Ending) → (first ≡ Some e → first' ≡ Some e) → IsChecked first e → IsChecked first' e
 checked_by first first' endings.NoCommand same is = same is
 checked_by first first' endings.NoMemory same is = tt
 checked_by first first' (endings.Absent file) same is = same is

@@ -1,8 +1,11 @@
+pub mod CatalogueLengths
 pub mod CommandLaws
+pub mod Drafted
 pub mod Gathers
 pub mod Inputs
 pub mod Obeying
 pub mod Opens
 pub mod Read
+pub mod Refusals
 pub mod Runs
 pub mod Written

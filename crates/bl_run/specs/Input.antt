@@ -60,6 +60,12 @@ pub record IsAcceptedFile (b : List ℕ) (f : File) : Type 0 where
   pub accepted : Accepted b f
   pub few : length f.nodes < most_blocks
 
+-- the bytes under a name are held, and accepted as this file
+pub record IsHeldAs (held : Held) (name : List ℕ) (f : File) : Type 0 where
+  pub b : List ℕ
+  pub is_held : get held name ≡ Some b
+  pub accepted : IsAcceptedFile b f
+
 -- the input is held, no longer than the limit, and accepted
 pub record IsReadable (held : Held) (input : List ℕ) : Type 0 where
   pub b : List ℕ

@@ -1,5 +1,6 @@
 pub mod Blame
 pub mod Commands
+pub mod Conversions
 pub mod Input
 pub mod Meaning
 pub mod Obeying

@@ -2,7 +2,7 @@
 ghost use Rattle.std.specs.Prelude.{◌≡◌, Option, None, IfOk, option_and_then};
 ghost use Rattle.bl_commands.specs.declared.command.Command.{Command};
 ghost use Rattle.bl_run.specs.Blame.{IsUsage};
-ghost use Rattle.bl_run.specs.Commands.{built, has_no_option, meaning_of};
+ghost use Rattle.bl_run.specs.Commands.{built, has_like_alone, meaning_of};
 ghost use Rattle.bl_run.specs.Obeying.{Obeys};
 
 mod convert;
@@ -15,12 +15,11 @@ use bl_shelf::{Shelf, Sink};
 use bl_words::{Command, ConvertOptions};
 use std::alloc::Global;
 
-// Whether convert is given no option.
-fn has_no_option(options: &ConvertOptions) -> bool
-    ensures { result ≡ has_no_option options.now }
+// Whether convert is given no option but `--like`.
+fn has_like_alone(options: &ConvertOptions) -> bool
+    ensures { result ≡ has_like_alone options.now }
 {
-    options.like.is_none()
-        && options.width.is_none()
+    options.width.is_none()
         && options.order.is_none()
         && options.head.is_none()
         && options.renames.is_none()
@@ -51,9 +50,14 @@ pub fn perform<S: Shelf, O: Sink>(
                     options,
                 },
             ),
-        ) if has_no_option(options) => {
-            convert::convert(alloc, input.as_str(), name.as_str(), shelf, out)
-        }
+        ) if has_like_alone(options) => convert::convert(
+            alloc,
+            input.as_str(),
+            name.as_str(),
+            &options.like,
+            shelf,
+            out,
+        ),
         Ok(Some(Command::Schema { input })) => schema::schema(alloc, input.as_str(), shelf, out),
         Ok(
             Some(

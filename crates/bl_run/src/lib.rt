@@ -5,6 +5,7 @@ mod commands;
 mod committing;
 mod opening;
 mod printing;
+mod rendering;
 mod running;
 
 pub use running::run;

@@ -44,8 +44,9 @@ fn conclude<O: Sink>(alloc: Global, done: Result<(), Ending>, out: &mut O) -> u8
 
 /// Does what the words spell, and answers the status of the process: 0 where it is done; 2 where
 /// the words spell no command that this program has; 3 where memory is wanted; 4 where an input
-/// isn't held; 5 where a device of the shelf failed; 6 where an input is refused; 9 where it passes
-/// a limit; 10 where the sink failed.
+/// isn't held; 5 where a device of the shelf failed; 6 where an input is refused; 8 where a float
+/// would become another number; 9 where an input or the output passes a limit; 10 where the sink
+/// failed.
 ///
 /// The line of a conversion is put before the output is committed. A run that ends with another
 /// status than 0 and 10 puts a line of what ended it; after 3, and where the sink fails, a part of
@@ -72,7 +73,7 @@ pub fn run<S: Shelf, O: Sink>(alloc: Global, words: &[String], shelf: &mut S, ou
         → (result ≡ 0) ⊎ (result ≡ 3)) }
 
     // What status 0 does, and what that is: a conversion of the input, which reads back, or the
-    // print of its catalogue.
+    // print of its catalogue, or of the fates of another's members.
     ensures done { IfSome (S.told shelf.old) (λ t. result ≡ 0
         → IsDone ((meaning_in words.now).outcome t.held) t.held
         (held_of (S.told shelf.new)) (O.written out.old) (O.written out.new)) }

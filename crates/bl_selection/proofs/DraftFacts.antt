@@ -4,16 +4,17 @@ use Rattle.std.specs.Prelude.{◌==◌, ◌&&◌, nat_le, nat_lt, zip}
 use Rattle.std.specs.List.{list_all, enumerate_from, position_from}
 use Rattle.std.proofs.lemmas.Bool.{ltb-true, leb-true, ne_eqb, cases_lt, and_parts}
 use Rattle.std.proofs.lemmas.List.FromFn.{length-enumerate_from, get_or-enumerate_from}
-use Rattle.std.proofs.lemmas.List.Elements.{All-head, All-tail, All-map, All-filter, All-weaker}
+use Rattle.std.proofs.lemmas.List.Elements.{All-head, All-tail, All-map, All-filter, All-weaker, filter_passes}
 use Rattle.std.proofs.lemmas.List.Sums.{AllPass-from_list_all}
 use Rattle.bl_format.specs.declared.file.Header.{Header}
 use Rattle.bl_format.specs.declared.catalogue.Catalogue.{Catalogue}
 use Rattle.bl_format.specs.Words.{numbers_below, first_place}
-use Rattle.bl_format.specs.Nodes.{File}
+use Rattle.bl_format.specs.Nodes.{File, group_of}
+use Rattle.bl_format.specs.Graph.{file_codes}
 use Rattle.bl_selection.specs.declared.draft.Draft.{Draft}
 use Rattle.bl_selection.specs.declared.draft.Entry.{Entry}
 use Rattle.bl_selection.specs.declared.draft.Entry.TheVariants as entries
-use Rattle.bl_selection.specs.Selection.{selection_views, kept_nodes, whole_selection}
+use Rattle.bl_selection.specs.Selection.{is_kept, selection_views, kept_nodes, whole_selection}
 use Rattle.bl_selection.specs.Drafts.{kept_in_group, is_good_source, has_good_images, is_good_entry, is_well_formed}
 use Rattle.bl_selection.proofs.CellsFit.{numbers_below-lt}
 
@@ -107,20 +108,54 @@ good_source-within f d e n is = elim (cases_lt n (length f.nodes)) [
       absurd (cc))
 ]
 
+-- a node of node n's group is kept
+abbrev is_with : File → Draft → ℕ → ℕ → Bool
+is_with f d n m = group_of (file_codes f) m == group_of (file_codes f) n && is_kept d.catalogue f m
+
+with_is_kept : (f : File) (d : Draft) (n m : ℕ) → is_with f d n m ≡ true → is_kept d.catalogue f m ≡ true
+with_is_kept f d n m pass = (and_parts (group_of (file_codes f) m == group_of (file_codes f) n) (is_kept d.catalogue f m) pass).1
+
+all_kept : (f : File) (d : Draft) (n : ℕ) → All (λ m. is_kept d.catalogue f m ≡ true) (kept_in_group f d n)
+all_kept f d n =
+    All-weaker (λ m. is_with f d n m ≡ true) (λ m. is_kept d.catalogue f m ≡ true) (λ m pass. with_is_kept f d n m pass) (kept_in_group f d n)
+    (filter_passes (is_with f d n) (numbers_below (length f.nodes)))
+
+-- it is one that the draft's catalogue keeps
+good_source-kept : (f : File) (d : Draft) (e n : ℕ) → is_good_source (f ∷ []) d e 0 n ≡ true → is_kept d.catalogue f n ≡ true
+good_source-kept f d e n is = by (is_kept d.catalogue f n) refl
+  where
+    by : (kept : Bool) → is_kept d.catalogue f n ≡ kept → kept ≡ true
+    by true own = refl
+    by false own =
+        let none : first_place (λ m. m == n) (kept_in_group f d n) ≡ None =
+        position_from-none (λ m. m == n) 0 (kept_in_group f d n)
+        (All-weaker (λ m. is_kept d.catalogue f m ≡ true) (λ m. (m == n) ≡ false)
+        (λ m kept. ne_eqb m n (λ (same : m ≡ n). let both : true ≡ false = sym kept ∙ ap (λ (k : ℕ). is_kept d.catalogue f k) same ∙ own in absurd (cc)))
+        (kept_in_group f d n) (all_kept f d n)) in
+        let never : false ≡ true = rw none at is in
+        never
+
+module _ (f : File) (d : Draft) (e n : ℕ) (other : Entry) (is : is_well_formed (f ∷ []) d ≡ true) (lt : e < length d.entries) (at : get_or d.entries e other ≡ entries.Source 0 n) where
+  -- an entry of a well-formed draft is good
+  good_here : is_good_source (f ∷ []) d e 0 n ≡ true
+  unfolding is_good_entry
+  good_here =
+      let views = selection_views (f ∷ []) d in
+      let zero_more : 0 + e ≡ e = omega arith in
+      let good : is_good_entry (f ∷ []) d views (get_or (enumerate_from 0 d.entries) e (0, other)).0 (get_or (enumerate_from 0 d.entries) e (0, other)).1 ≡ true =
+      AllPass-from_list_all (λ (p : ℕ × Entry). is_good_entry (f ∷ []) d views p.0 p.1) (enumerate_from 0 d.entries) (good_parts (f ∷ []) d is).each e (0, other) (omega (arith, lt, length-enumerate_from 0 d.entries)) in
+      sym (ap (λ (q : ℕ × Entry). is_good_entry (f ∷ []) d views q.0 q.1) (get_or-enumerate_from 0 d.entries e (0, other) lt)
+      ∙ ap (λ (k : ℕ). is_good_entry (f ∷ []) d views k (get_or d.entries e other)) zero_more
+      ∙ ap (λ (x : Entry). is_good_entry (f ∷ []) d views e x) at) ∙ good
+
+  -- in a well-formed draft over one file an entry of a node of file 0 is of a node that the draft's catalogue keeps
+  pub source-kept : is_kept d.catalogue f n ≡ true
+  source-kept = good_source-kept f d e n good_here
+
 -- in a well-formed draft over one file an entry of a node of file 0 is of one of the file's nodes
 pub source-within : (f : File) (d : Draft) (e n : ℕ) (other : Entry) → is_well_formed (f ∷ []) d ≡ true
     → e < length d.entries → get_or d.entries e other ≡ entries.Source 0 n → n < length f.nodes
-unfolding is_good_entry
-source-within f d e n other is lt at =
-    let views = selection_views (f ∷ []) d in
-    let zero_more : 0 + e ≡ e = omega arith in
-    let good : is_good_entry (f ∷ []) d views (get_or (enumerate_from 0 d.entries) e (0, other)).0 (get_or (enumerate_from 0 d.entries) e (0, other)).1 ≡ true =
-    AllPass-from_list_all (λ (p : ℕ × Entry). is_good_entry (f ∷ []) d views p.0 p.1) (enumerate_from 0 d.entries) (good_parts (f ∷ []) d is).each e (0, other) (omega (arith, lt, length-enumerate_from 0 d.entries)) in
-    let here : is_good_entry (f ∷ []) d views e (entries.Source 0 n) ≡ true =
-    sym (ap (λ (q : ℕ × Entry). is_good_entry (f ∷ []) d views q.0 q.1) (get_or-enumerate_from 0 d.entries e (0, other) lt)
-    ∙ ap (λ (k : ℕ). is_good_entry (f ∷ []) d views k (get_or d.entries e other)) zero_more
-    ∙ ap (λ (x : Entry). is_good_entry (f ∷ []) d views e x) at) ∙ good in
-    good_source-within f d e n here
+source-within f d e n other is lt at = good_source-within f d e n (good_here f d e n other is lt at)
 
 -- where all entries are nodes of that file, an entry of a node has file 0 and one of the file's nodes
 pub source-node : (f : File) (d : Draft) (e i n : ℕ) (other : Entry) → is_well_formed (f ∷ []) d ≡ true → All IsSource0 d.entries

@@ -100,7 +100,8 @@ holds_elements f x own some =
     let le : x.count * struct_length f.catalogue x.index ≤ x.len = ltb-false x.len (x.count * struct_length f.catalogue x.index) enough in
     omega (arith, le, payload_len f x own)
 
-kept_struct : (c : Catalogue) (f : File) (n : ℕ) → is_kept c f n ≡ true → (get_or f.nodes n no_head).index ≢ 0
+-- a struct node that a catalogue keeps has its struct there at a number other than 0
+pub kept_struct : (c : Catalogue) (f : File) (n : ℕ) → is_kept c f n ≡ true → (get_or f.nodes n no_head).index ≢ 0
     → index_under c f.catalogue (get_or f.nodes n no_head).index ≢ 0
 unfolding is_kept
 kept_struct c f n kept some =
@@ -116,7 +117,7 @@ struct_number-short c name few = by_zero (struct_number c name == 0) refl
     by_zero true is = let none : struct_number c name ≡ 0 = eqb-true (struct_number c name) 0 is in omega (arith, none)
     by_zero false is = let within = (struct_number-named c name (eqb-false (struct_number c name) 0 is)).within in omega (arith, within, few)
 
-index_under-short : (c from : Catalogue) (s : ℕ) → length c.structs < 2 ^ 31 → IsCount (index_under c from s)
+pub index_under-short : (c from : Catalogue) (s : ℕ) → length c.structs < 2 ^ 31 → IsCount (index_under c from s)
 index_under-short c from zero few = omega arith
 index_under-short c from (suc s) few = struct_number-short c (struct_name from (suc s)) few
 
@@ -125,7 +126,7 @@ addresses_fit Four e few = omega (arith, few)
 addresses_fit Eight e few = omega (arith, few)
 
 -- a catalogue has no more structs than its payload has bytes
-few_structs : (order : Order) (c : Catalogue) → length c.structs ≤ length (catalogue_written order c)
+pub few_structs : (order : Order) (c : Catalogue) → length c.structs ≤ length (catalogue_written order c)
 few_structs order c =
     let text : List ℕ = flat_map (struct_written order) c.structs in
     omega (arith, length-catalogue_written order c, each c.structs, length-append (codes "STRC" ++ bytes_of order 4 (length c.structs)) text)

@@ -1,6 +1,6 @@
 -- A catalogue brought to its own width is itself: each struct's new length is the sum of its members' sizes and its
--- unnamed tail, which is the length that it has. So a file's own written form is what it is converted to with no option.
-use Rattle.std.proofs.Common.{◌≡◌, ℕ, zero, suc, ◌+◌, ◌*◌, ◌≤◌, ◌<◌, Bool, true, false, cond, List, [], length, get_or, Option, Some, None, refl, sym, ap, subst, ◌∙◌, arith}
+-- unnamed tail, which is the length that it has.
+use Rattle.std.proofs.Common.{◌≡◌, ℕ, zero, suc, ◌+◌, ◌*◌, ◌≤◌, ◌<◌, Bool, true, false, cond, List, [], length, get_or, Option, Some, None, refl, sym, ap, ◌∙◌, arith}
 use Rattle.std.specs.Prelude.{sum}
 use Rattle.std.proofs.lemmas.List.{same_lists, get_or_default}
 use Rattle.bl_num.specs.declared.number.Width.{Width}
@@ -9,14 +9,12 @@ use Rattle.bl_format.specs.declared.catalogue.Catalogue.{Catalogue}
 use Rattle.bl_format.specs.declared.catalogue.TypeEntry.{TypeEntry}
 use Rattle.bl_format.specs.Layout.{type_entry, member_count, struct_length, struct_of_type, name_of, inner_struct, element_size, member_size, first_fault, HasLayout}
 use Rattle.bl_format.specs.Rewidth.{tail_of, new_value_size, new_size, new_length, type_length, rewidth}
-use Rattle.bl_format.specs.Nodes.{File, Accepted}
 use Rattle.bl_format.proofs.MemberPasses.{first_fault-none, is_struct_of, inner_struct-some, element_size-inner}
 use Rattle.bl_format.proofs.NoneInItself.{structs_below, fewer_below, one_below}
 use Rattle.bl_format.proofs.NewLengths.{map_same, new_length-members}
 use Rattle.bl_format.proofs.RewidthKeeps.{type_at, rewidth-structs, rewidth-names, rewidth-type_count}
 use Rattle.bl_format.proofs.RewidthLayout.{length_is, element_of_pointer, element_by_value}
 use Rattle.bl_format.proofs.RewidthBack.{same_catalogue, with_length}
-use Rattle.bl_selection.specs.Committed.{IsRebuilt, IsConverted}
 
 -- ---- sizes
 
@@ -82,14 +80,3 @@ rewidth-same c w h =
     let within : k < length c.types = omega (arith, count) in
     type_at c w w k x within ∙ ap (with_length (get_or c.types k x)) (type_same c w k x (first_fault-none c w h.no_fault) within))))
     (rewidth-structs c w w)
-
--- the written form of a file's own graph is what the file is converted to with no option
-pub own_form-converted : (b new : List ℕ) (f : File) → Accepted b f → HasLayout f.catalogue f.header.width
-    → IsRebuilt f f.header f.catalogue new → IsConverted b None None None new
-own_form-converted b new f accepted layout rebuilt = record {
-  file = f;
-  accepted = accepted;
-  like_file = None;
-  likewise = (refl, tt);
-  stands = subst (λ (c : Catalogue). IsRebuilt f f.header c new) (sym (rewidth-same f.catalogue f.header.width layout)) rebuilt;
-}

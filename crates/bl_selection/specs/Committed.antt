@@ -1,6 +1,6 @@
 -- What a committed file is: accepted, with a header, a catalogue and a graph that are given, in their
 -- written form; and what convert commits. This project's own.
-use Rattle.std.specs.Prelude.{◌≡◌, ℕ, List, Option, option_map, unwrap_or, IfSome}
+use Rattle.std.specs.Prelude.{◌≡◌, ℕ, List, [], ◌∷◌, Option, None, option_map, unwrap_or, IfSome}
 use Rattle.bl_num.specs.declared.number.Order.{Order}
 use Rattle.bl_num.specs.declared.number.Width.{Width}
 use Rattle.bl_format.specs.declared.file.Header.{Header}
@@ -8,7 +8,7 @@ use Rattle.bl_format.specs.declared.catalogue.Catalogue.{Catalogue}
 use Rattle.bl_format.specs.Nodes.{File, Accepted}
 use Rattle.bl_format.specs.Graph.{Node, graph}
 use Rattle.bl_format.specs.Rewidth.{rewidth}
-use Rattle.bl_selection.specs.Selection.{rebuilt_graph}
+use Rattle.bl_selection.specs.Selection.{rebuilt_graph, selection_clash, whole_selection}
 use Rattle.bl_selection.specs.Written.{written_form}
 
 -- the bytes are accepted, have this header, catalogue and graph, and are their one written form
@@ -46,6 +46,10 @@ AcceptedIfGiven bytes file =
 abbrev pub IsRebuilt : File → Header → Catalogue → List ℕ → Type 0
 IsRebuilt f h c new = Stands new h c (rebuilt_graph f h c)
 
+-- no float of a file's nodes becomes another number under a header and a catalogue
+abbrev pub KeepsFloats : File → Header → Catalogue → Type 0
+KeepsFloats f h c = selection_clash (f ∷ []) (whole_selection f h c) ≡ None
+
 -- the bytes that convert commits, by those of IN and of CAT, the width and the order
 pub record IsConverted
     (old : List ℕ) (like : Option (List ℕ)) (width : Option Width) (order : Option Order) (new : List ℕ)
@@ -54,5 +58,7 @@ pub record IsConverted
   pub accepted : Accepted old file
   pub like_file : Option File
   pub likewise : AcceptedIfGiven like like_file
+  pub no_clash : KeepsFloats file (target_header file like_file width order)
+      (target_catalogue file like_file width)
   pub stands : IsRebuilt file (target_header file like_file width order)
       (target_catalogue file like_file width) new

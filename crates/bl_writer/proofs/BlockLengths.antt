@@ -11,14 +11,12 @@ use Rattle.bl_format.specs.declared.file.Header.{Header}
 use Rattle.bl_format.specs.declared.file.Head.{Head}
 use Rattle.bl_format.specs.Words.{zeros}
 use Rattle.bl_format.specs.Blocks.{head_size, head_written}
-use Rattle.bl_selection.specs.Selection.{no_head}
 use Rattle.bl_selection.specs.Written.{block_written}
 pub use Rattle.bl_selection.proofs.CarriedLengths.{length-head_written}
 use Rattle.bl_writer.specs.declared.output.Output.{Output}
-use Rattle.bl_writer.specs.Outputs.{IsOutput, output_head, output_kind, written_length, output_length, outputs_length}
+use Rattle.bl_writer.specs.Outputs.{block_length}
 use Rattle.bl_writer.specs.Lengths.{blocks_length}
 use Rattle.bl_writer.specs.Rendering.{end_written}
-use Rattle.bl_writer.proofs.NodeFacts.{written_length-le}
 
 pub head_size-le : (h : Header) → head_size h ≤ 24
 head_size-le h = by h.width
@@ -34,35 +32,17 @@ head_size-ge h = by h.width
     by Four = omega arith
     by Eight = omega arith
 
--- a block is shorter than 4 GiB
-pub output_length-lt : (o : Output) (size k : ℕ) → IsOutput o size → k < length o.nodes.now → output_length o k < 2 ^ 32
-output_length-lt o size k is lt =
-    let node = is.nodes k no_head lt in
-    let own : written_length o (output_kind o k) (output_head o k) ≤ (output_head o k).len = written_length-le o (output_kind o k) (output_head o k) node.no_fault in
-    let head : head_size o.header ≤ 24 = head_size-le o.header in
-    let len : (output_head o k).len < 2 ^ 31 = node.len in
-    omega (arith, own, head, len)
-
--- so all blocks together are short too
-pub outputs_length-le : (o : Output) (size k : ℕ) → IsOutput o size → k ≤ length o.nodes.now → outputs_length o k ≤ k * 2 ^ 32
+pub blocks_length-more : (o : Output) (k : ℕ) → blocks_length o (k + 1) ≡ blocks_length o k + block_length o k
 unfolding blocks_length
-outputs_length-le o size zero is le = omega arith
-outputs_length-le o size (suc k) is le =
-    let before : outputs_length o k ≤ k * 2 ^ 32 = outputs_length-le o size k is (omega (arith, le)) in
-    let own : output_length o k < 2 ^ 32 = output_length-lt o size k is (omega (arith, le)) in
-    omega (arith, before, own)
-
-pub outputs_length-more : (o : Output) (k : ℕ) → outputs_length o (k + 1) ≡ outputs_length o k + output_length o k
-unfolding blocks_length
-outputs_length-more o k = let next : k + 1 ≡ suc k = omega arith in ap (outputs_length o) next
+blocks_length-more o k = let next : k + 1 ≡ suc k = omega arith in ap (blocks_length o) next
 
 -- the first blocks are no longer than all
-pub outputs_length-mono : (o : Output) (k n : ℕ) → k ≤ n → outputs_length o k ≤ outputs_length o n
+pub blocks_length-mono : (o : Output) (k n : ℕ) → k ≤ n → blocks_length o k ≤ blocks_length o n
 unfolding blocks_length
-outputs_length-mono o k zero le = let same : k ≡ 0 = omega (arith, le) in rw same (omega arith)
-outputs_length-mono o k (suc n) le = elim (cases_lt n k) [
+blocks_length-mono o k zero le = let same : k ≡ 0 = omega (arith, le) in rw same (omega arith)
+blocks_length-mono o k (suc n) le = elim (cases_lt n k) [
   | inl above ↦ (let same : k ≡ suc n = omega (arith, le, above) in rw same (omega arith))
-  | inr below ↦ (let before : outputs_length o k ≤ outputs_length o n = outputs_length-mono o k n (omega (arith, below)) in omega (arith, before))
+  | inr below ↦ (let before : blocks_length o k ≤ blocks_length o n = blocks_length-mono o k n (omega (arith, below)) in omega (arith, before))
 ]
 
 -- ---- what is written
@@ -86,9 +66,9 @@ end_written-is h n text size is = is ∙ ap (λ m. codes "ENDB" ++ zeros (m - 4)
 
 -- ---- measures
 
-pub outputs_length-none : (o : Output) → 0 ≡ outputs_length o 0
+pub blocks_length-none : (o : Output) → 0 ≡ blocks_length o 0
 unfolding blocks_length
-outputs_length-none o = refl
+blocks_length-none o = refl
 
 -- the most of the first k numbers, and of one more
 pub most_more : (f : ℕ → ℕ) (k own most next : ℕ) → own ≡ f k → next ≡ max own most → ((i : ℕ) → i < k → f i ≤ most) → (i : ℕ) → i < k + 1 → f i ≤ next

@@ -1,5 +1,5 @@
--- The written form of a draft of one opened file's nodes, under any header and catalogue, how long it is, and what its
--- pointers say, by what is known of its entries: the heads of their nodes, their kinds, and what addresses name from them.
+-- The written form of a draft of one opened file's nodes, under any header and catalogue, and how long it is, by what is known
+-- of its entries: the heads of their nodes, their kinds, and what addresses name from them.
 use Rattle.std.proofs.Common.{◌≡◌, ℕ, ◌<◌, true, All, List, [], ◌∷◌, ◌++◌, length, get_or, None, sym, ap, subst, ◌∙◌, arith}
 use Rattle.std.specs.Prelude.{map, flat_map}
 use Rattle.std.specs.List.{enumerate_from}
@@ -35,8 +35,8 @@ use Rattle.bl_file.specs.Outlines.{StandsFor}
 use Rattle.bl_draft.specs.Own.{outlined, IsOfSource, entry_node, entry_head, entry_heads, own_names, entry_kinds}
 use Rattle.bl_writer.specs.Outputs.{selection_form}
 use Rattle.bl_writer.specs.Rendering.{end_written}
-use Rattle.bl_writer.proofs.EntryNames.{names_without}
-use Rattle.bl_writer.proofs.KindsAgree.{entry_kinds-draft}
+use Rattle.bl_draft.proofs.EntryNames.{names_without}
+use Rattle.bl_draft.proofs.KindsAgree.{entry_kinds-draft}
 
 is_source_node : (x : Entry) → IsOfSource x → IsSourceNode x
 is_source_node (entries.Source i n) is = tt
@@ -85,41 +85,6 @@ module _ (b : List ℕ) (o : Outline) (d : Draft) where
       written_form-carried files d none (All-weaker IsOfSource IsSourceNode is_source_node d.entries sources)
       ∙ ap (λ (blocks : List ℕ). ((header_written d.header ++ blocks) ++ catalogue_block d.header d.catalogue) ++ end_written d.header)
       (texts-same (draft_block files d) known_block (length d.entries) (λ e lt. sym (known_block-is sources e lt)))
-
-  -- ---- what pointers say
-
-  views_by_entry : d.overrides ≡ [] → (e : ℕ) (x : Entry) → IsOfSource x
-      → entry_views files d e x ≡ carried_views (entry_names (outlined o [] ∷ []) d e 0 (entry_node x)) f d.header d.catalogue (entry_head o.nodes x)
-  views_by_entry none e (entries.Source i n) is =
-      ap (λ (k : ℕ). entry_views files d e (entries.Source k n)) is
-      ∙ entry_views-carried files d [] e 0 n none
-      ∙ ap (λ (names : Naming Target). carried_views names f d.header d.catalogue (get_or o.nodes n no_head)) (sym (names_without o d b e n))
-  views_by_entry none e (entries.Made m) is = absurd is
-  views_by_entry none e (entries.Raw code bytes) is = absurd is
-
-  -- what all pointers of the draft say, by the heads of its nodes
-  pub selection_views-known : d.overrides ≡ [] → All IsOfSource d.entries
-      → selection_views files d
-      ≡ flat_map (λ p. carried_views (own_names (outlined o []) d p.0) f d.header d.catalogue p.1) (enumerate_from 0 (entry_heads o.nodes d.entries))
-  unfolding selection_views
-  selection_views-known none sources =
-      let heads : List Head = entry_heads o.nodes d.entries in
-      let one : List View → List View = λ vs. vs in
-      let by_entries : ℕ × Entry → List View = λ p. entry_views files d p.0 p.1 in
-      let by_heads : ℕ × Head → List View = λ p. carried_views (own_names (outlined o []) d p.0) f d.header d.catalogue p.1 in
-      let many : length heads ≡ length d.entries = length-map d.entries (entry_head o.nodes) in
-      let left : length (map by_entries (enumerate_from 0 d.entries)) ≡ length d.entries = length-map (enumerate_from 0 d.entries) by_entries ∙ length-enumerate_from 0 d.entries in
-      let right : length (map by_heads (enumerate_from 0 heads)) ≡ length d.entries = length-map (enumerate_from 0 heads) by_heads ∙ length-enumerate_from 0 heads ∙ many in
-      let same : map by_entries (enumerate_from 0 d.entries) ≡ map by_heads (enumerate_from 0 heads) =
-      ext_get_or [] (map by_entries (enumerate_from 0 d.entries)) (map by_heads (enumerate_from 0 heads)) (left ∙ sym right)
-      (λ e below.
-      let none_there : Entry = entries.Raw [] [] in
-      let lt : e < length d.entries = omega (arith, below, left) in
-      at_place by_entries d.entries e none_there [] lt
-      ∙ views_by_entry none e (entry_at d e) (sources e none_there lt)
-      ∙ sym (at_place by_heads heads e no_head [] (omega (arith, lt, many))
-      ∙ ap (λ (x : Head). by_heads (e, x)) (get_or-map (entry_head o.nodes) d.entries e none_there no_head lt))) in
-      sym (flat_map-map one by_entries (enumerate_from 0 d.entries)) ∙ ap (flat_map one) same ∙ flat_map-map one by_heads (enumerate_from 0 heads)
 
   -- ---- how long it is
 

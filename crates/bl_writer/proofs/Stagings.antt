@@ -1,15 +1,14 @@
 -- A file that is staged after some reads.
-use Rattle.std.proofs.Common.{◌≡◌, ◌∙◌, ◌⊎◌, List, ℕ, Option, None, Result, Ok, Err, subst, ap}
+use Rattle.std.proofs.Common.{◌≡◌, ◌∙◌, ◌⊎◌, inl, inr, List, ℕ, Option, None, Result, Ok, Err, subst, ap}
 use Rattle.std.specs.Prelude.{IfOk}
 use Rattle.bl_shelf.specs.Calls.{IsQuiet, Keeps}
 use Rattle.bl_shelf.specs.Causes.{Rose}
 use Rattle.bl_shelf.specs.History.{History, with_stage}
 use Rattle.bl_shelf.specs.Told.{Told}
 use Rattle.bl_shelf.specs.declared.shelf.Shelf.{Ghosts}
-use Rattle.bl_shelf.specs.declared.shelf.ShelfFault.{ShelfFault}
-use Rattle.bl_shelf.specs.declared.shelf.ShelfFault.TheVariants.{Absent, Failed, NoMemory}
-use Rattle.bl_file.specs.Frames.{IsBlamed, CountsReads}
-use Rattle.bl_writer.specs.Calls.{Stages}
+use Rattle.bl_writer.specs.declared.fault.WriteFault.{WriteFault}
+use Rattle.bl_writer.specs.declared.fault.WriteFault.TheVariants as faults
+use Rattle.bl_writer.specs.Calls.{CountsWrites, RefusesFirst, Stages}
 
 -- three facts of an answer give a fourth
 pub IfOk-three : {T E : Type 0} (r : Result T E) (P Q R W : T → Type 0) → IfOk r P → IfOk r Q → IfOk r R → ((x : T) → P x → Q x → R x → W x) → IfOk r W
@@ -25,12 +24,21 @@ module _ {S : Type 0} (g : Ghosts S) (s s1 s2 : S) (keeps : Keeps g s s1) where
     history = subst (λ (h : History). (g.history s2 ≡ h) ⊎ (g.history s2 ≡ with_stage name h)) keeps.history none.history;
   }
 
-  blamed_after : (fault : ShelfFault) → IsQuiet g s s1 → IsBlamed g s1 s2 fault → IsBlamed g s s2 fault
-  blamed_after Absent quiet is = (subst (λ (t : Option Told). t ≡ None) keeps.told is.0, subst (λ n. Rose n (g.misses s2)) quiet.1 is.1)
-  blamed_after Failed quiet is = subst (λ n. Rose n (g.faults s2)) quiet.0 is
-  blamed_after NoMemory quiet is = tt
+  -- a refusal before anything was staged is one after reads
+  pub first_after : {T : Type 0} (r : Result T WriteFault) → RefusesFirst g s1 s2 r → RefusesFirst g s s2 r
+  first_after (Ok x) first = tt
+  first_after (Err fault) first = elim first [
+    | inl outside ↦ inl outside
+    | inr same ↦ inr (same ∙ keeps.history)
+  ]
 
   -- what is counted after reads that went well is counted
-  pub counts_after : {T : Type 0} (r : Result T ShelfFault) → IsQuiet g s s1 → CountsReads g s1 s2 r → CountsReads g s s2 r
-  counts_after (Ok x) quiet more = (more.0 ∙ quiet.0, more.1 ∙ quiet.1)
-  counts_after (Err fault) quiet is = blamed_after fault quiet is
+  pub writes_after : {T : Type 0} (r : Result T WriteFault) → IsQuiet g s s1 → CountsWrites g s1 s2 r → CountsWrites g s s2 r
+  writes_after (Ok x) quiet more = (more.0 ∙ quiet.0, more.1 ∙ quiet.1)
+  writes_after (Err faults.Absent) quiet is = (subst (λ (t : Option Told). t ≡ None) keeps.told is.0, subst (λ n. Rose n (g.misses s2)) quiet.1 is.1)
+  writes_after (Err faults.Device) quiet is = subst (λ n. Rose n (g.faults s2)) quiet.0 is
+  writes_after (Err faults.NoMemory) quiet is = tt
+  writes_after (Err (faults.FloatCast t member)) quiet is = tt
+  writes_after (Err (faults.TooManyBlocks n)) quiet is = tt
+  writes_after (Err (faults.BlockTooLong n)) quiet is = tt
+  writes_after (Err (faults.FileTooLarge n)) quiet is = tt

@@ -50,6 +50,18 @@ abbrev pub Stages : {S T F : Type 0} → ShelfGhosts S → List ℕ → S → S 
 Stages g name s s' (Ok _) = IsStagedAs g name s s'
 Stages g name s s' (Err _) = IsUnstaged g name s s'
 
+-- a fault comes of the outside, and not of the draft
+abbrev pub IsOfOutside : WriteFault → Type 0
+IsOfOutside faults.Absent = ⊤
+IsOfOutside faults.Device = ⊤
+IsOfOutside faults.NoMemory = ⊤
+IsOfOutside _ = ⊥
+
+-- a refusal for what a draft is comes before anything is staged: no file was begun
+abbrev pub RefusesFirst : {S T : Type 0} → ShelfGhosts S → S → S → Result T WriteFault → Type 0
+RefusesFirst g s s' (Ok _) = ⊤
+RefusesFirst g s s' (Err fault) = IsOfOutside fault ⊎ (g.history s' ≡ g.history s)
+
 -- ---- whom a fault blames
 
 -- the count that a fault blames has risen; that a source is gone comes only of a shelf that doesn't tell

@@ -1,9 +1,8 @@
-pub mod Image
 pub mod Payloads
 pub mod Calls
 pub mod Lengths
 pub mod Rendering
 pub mod Outputs
-pub mod Plans
 pub mod Faults
 pub mod Totals
+pub mod Rendered

@@ -1,135 +1,118 @@
--- What is written of a source's nodes in the source's own form, and how long it is.
-use Rattle.std.specs.Prelude.{◌≡◌, ℕ, ◌<◌, ◌≤◌, ◌^◌, ◌==◌, if◌then◌else◌, All, List, ◌++◌, length, get_or, flat_map}
-use Rattle.bl_num.specs.declared.number.Width.{Width}
+-- What is written of a source's nodes under a header and a catalogue, and how long it is.
+use Rattle.std.specs.Prelude.{◌≡◌, ◌≢◌, ℕ, ◌<◌, ◌≤◌, ◌^◌, ◌+◌, All, List, [], ◌++◌, length, map, get_or, flat_map}
 use Rattle.bl_format.specs.declared.file.Head.{Head}
 use Rattle.bl_format.specs.declared.catalogue.Catalogue.{Catalogue}
 use Rattle.bl_format.specs.declared.raw.RawKind.{RawKind}
-use Rattle.bl_format.specs.declared.raw.RawKind.TheVariants.{Bytes, Numbers, Pointers, Pair}
+use Rattle.bl_format.specs.declared.raw.RawKind.TheVariants.{Bytes}
 use Rattle.bl_format.specs.Limits.{most_output_nodes, most_input_bytes, first_version, last_version}
-use Rattle.bl_format.specs.Words.{part, numbers_below}
-use Rattle.bl_format.specs.Blocks.{head_written, header_written}
+use Rattle.bl_format.specs.Words.{numbers_below}
+use Rattle.bl_format.specs.Blocks.{head_size, header_written}
 use Rattle.bl_format.specs.Schema.{catalogue_written}
-use Rattle.bl_format.specs.Layout.{HasLayout}
+use Rattle.bl_format.specs.Layout.{HasLayout, struct_numbers}
 use Rattle.bl_format.specs.Nodes.{File}
 use Rattle.bl_format.specs.Graph.{Target, Naming}
 use Rattle.bl_selection.specs.declared.draft.Draft.{Draft}
-use Rattle.bl_selection.specs.Selection.{no_head, selection_graph}
+use Rattle.bl_selection.specs.Selection.{no_head, index_under, selection_graph}
+use Rattle.bl_selection.specs.Carried.{StructForm, struct_form, carried_block, carried_length}
 use Rattle.bl_selection.specs.Written.{catalogue_block, written_form}
-use Rattle.bl_file.specs.declared.outline.Outline.{Outline}
-use Rattle.bl_file.specs.Outlines.{IsNodeIn, ArePairsLong}
+use Rattle.bl_plan.specs.declared.steps.Plan.{Plan}
+use Rattle.bl_plan.specs.Plans.{Carries, no_plan}
+use Rattle.bl_file.specs.Outlines.{IsNodeIn, ArePairsLong, file_with}
 use Rattle.bl_file.specs.Seen.{Namings}
-use Rattle.bl_writer.specs.declared.buffer.OutBuffer.{OutBuffer}
+use Rattle.bl_writer.specs.declared.nodes.Node.{Node}
 use Rattle.bl_writer.specs.declared.output.Output.{Output}
-use Rattle.bl_writer.specs.declared.plans.Plan.{Plan}
-use Rattle.bl_draft.specs.Own.{entry_heads}
-use Rattle.bl_writer.specs.Lengths.{payload_length, block_length, blocks_length, size_by}
-use Rattle.bl_writer.specs.Plans.{IsPlanOf, no_plan}
-use Rattle.bl_writer.specs.Payloads.{payload_place, elements_image, raw_image, block_head}
 use Rattle.bl_writer.specs.Rendering.{end_written}
 
--- plans are those of all structs of a catalogue, by their numbers
-pub record ArePlans (c : Catalogue) (w : Width) (plans : List Plan) : Type 0 where
-  pub len : length plans ≡ length c.structs
-  pub each : (s : ℕ) → s < length c.structs → IsPlanOf c w s (get_or plans s no_plan)
+-- ---- the source and the target
+
+-- the source, by its bytes
+abbrev pub source_of : Output → List ℕ → File
+source_of o b = file_with o.from o.source.now.catalogue [] b
+
+-- the catalogue that is written
+abbrev pub target_of : Output → Catalogue
+target_of o = o.structs.now.layout.now.catalogue
+
+-- the number of a source's struct in it
+abbrev pub number_in : Output → ℕ → ℕ
+number_in o s = index_under (target_of o) o.source.now.catalogue s
+
+-- how elements of a source's struct stand in the source
+abbrev pub form_in : Output → ℕ → StructForm
+form_in o s = struct_form o.from.order o.source.now.catalogue o.from.width s
+
+-- how they are written
+abbrev pub form_out : Output → ℕ → StructForm
+form_out o s = struct_form o.header.order (target_of o) o.header.width (number_in o s)
+
+-- the plan of a source's struct
+abbrev pub plan_of : Output → ℕ → Plan
+plan_of o s = get_or o.structs.now.plans.items s no_plan
+
+-- unless a node is raw, the catalogue has its struct, whose plan carries elements over
+abbrev pub IsPlanned : Output → Head → Type 0
+IsPlanned o x =
+    x.index ≢ 0 → (number_in o x.index < length (target_of o).structs) × Carries (form_in o x.index) (form_out o x.index) (plan_of o x.index)
 
 -- an output of a source of so many bytes can be written
 pub record IsOutput (o : Output) (size : ℕ) : Type 0 where
   pub version : (first_version ≤ o.header.version) × (o.header.version ≤ last_version)
-  pub width : o.layout.now.width ≡ o.header.width
-  pub has_layout : HasLayout o.layout.now.catalogue o.layout.now.width
-  pub short : length (catalogue_written o.header.order o.layout.now.catalogue) < 2 ^ 31
+  pub width : o.structs.now.layout.now.width ≡ o.header.width
+  pub has_layout : HasLayout (target_of o) o.header.width
+  pub short : length (catalogue_written o.header.order (target_of o)) < 2 ^ 31
+  pub source_width : o.source.now.width ≡ o.from.width
+  pub source_layout : HasLayout o.source.now.catalogue o.from.width
+  pub numbers : o.structs.now.numbers.items ≡ map (number_in o) (struct_numbers o.source.now.catalogue)
+  pub plans : length o.structs.now.plans.items ≡ length o.source.now.catalogue.structs
+  pub planned : All (IsPlanned o) o.nodes.now
   pub few : length o.nodes.now ≤ most_output_nodes
   pub small : size ≤ most_input_bytes
-  pub nodes : All (IsNodeIn o.header o.layout.now.catalogue size) o.nodes.now
+  pub nodes : All (IsNodeIn o.from o.source.now.catalogue size) o.nodes.now
   pub kinds : length o.kinds.now ≡ length o.nodes.now
   pub pairs : ArePairsLong o.nodes.now o.kinds.now
-  pub plans : ArePlans o.layout.now.catalogue o.layout.now.width o.plans.now
 
 -- ---- one node
 
 -- the head of node k, as it stands in the source
-abbrev pub output_head : Output → ℕ → Head
-output_head o k = get_or o.nodes.now k no_head
+abbrev pub head_of : Output → ℕ → Head
+head_of o k = get_or o.nodes.now k no_head
 
 -- the kind of node k
-abbrev pub output_kind : Output → ℕ → RawKind
-output_kind o k = get_or o.kinds.now k Bytes
+abbrev pub kind_of : Output → ℕ → RawKind
+kind_of o k = get_or o.kinds.now k Bytes
 
--- the bytes of a node's payload as it is written, by its kind and its head
-abbrev pub written_length : Output → RawKind → Head → ℕ
-written_length o = payload_length o.header o.layout.now.catalogue
+-- both
+abbrev pub node_of : Output → ℕ → Node
+node_of o k = record { head = head_of o k; kind = kind_of o k }
+
+-- the bytes of node k's payload as it is written
+abbrev pub payload_length : Output → ℕ → ℕ
+payload_length o k = carried_length (source_of o []) o.header (target_of o) (kind_of o k) (head_of o k)
 
 -- the bytes of node k's block
-abbrev pub output_length : Output → ℕ → ℕ
-output_length o = block_length o.header o.layout.now.catalogue o.nodes.now o.kinds.now
-
--- the bytes of a raw payload that is read before it is carried; all but pointers is read where it is written
-abbrev pub raw_scratch : RawKind → ℕ → ℕ
-raw_scratch Bytes len = 0
-raw_scratch (Numbers n) len = 0
-raw_scratch Pointers len = len
-raw_scratch Pair len = 0
-
--- the bytes of a node that are read before they are written, by its kind and its head; elements of a struct are read where
--- they are written
-abbrev pub scratch_of : RawKind → Head → ℕ
-scratch_of kind x = if x.index == 0 then raw_scratch kind x.len else 0
-
--- the same of node k
-abbrev pub output_scratch : Output → ℕ → ℕ
-output_scratch o k = scratch_of (output_kind o k) (output_head o k)
-
--- the payload of a node as it is written, by its kind, its head and the source's bytes, where addresses name this
-abbrev pub payload_bytes : Naming Target → Output → List ℕ → RawKind → Head → List ℕ
-payload_bytes names o b kind x =
-    let at = payload_place o.header x in
-    let l = o.layout.now in
-    if x.index == 0
-    then raw_image names o.header kind (part b at x.len)
-    else elements_image names o.header.order l.catalogue l.width x.index at x.count b
+abbrev pub block_length : Output → ℕ → ℕ
+block_length o k = head_size o.header + payload_length o k
 
 -- the block of node k, by the source's bytes, where addresses in it name this
 abbrev pub block_bytes : Naming Target → Output → List ℕ → ℕ → List ℕ
 block_bytes names o b k =
-    let x = output_head o k in
-    let kind = output_kind o k in
-    head_written o.header (block_head k x (written_length o kind x)) ++ payload_bytes names o b kind x
+    carried_block names (source_of o b) o.header (target_of o) k (kind_of o k) (head_of o k)
 
 -- ---- all nodes
 
--- the bytes of the first k blocks
-abbrev pub outputs_length : Output → ℕ → ℕ
-outputs_length o = blocks_length o.header o.layout.now.catalogue o.nodes.now o.kinds.now
+-- each payload has fewer bytes than a head can tell
+abbrev pub ArePayloadsShort : Output → Type 0
+ArePayloadsShort o = (k : ℕ) → k < length o.nodes.now → payload_length o k < 2 ^ 31
 
--- each block has no more bytes
-abbrev pub OutputFits : Output → ℕ → Type 0
-OutputFits o n = (k : ℕ) → k < length o.nodes.now → output_length o k ≤ n
-
--- no more bytes are read of any node before they are written
-abbrev pub OutputScratchFits : Output → ℕ → Type 0
-OutputScratchFits o n = (k : ℕ) → k < length o.nodes.now → output_scratch o k ≤ n
-
--- a buffer holds nothing back, and each block and so many bytes fit it
-pub record IsReady (o : Output) (n : ℕ) (b : OutBuffer) : Type 0 where
-  pub empty : b.filled ≡ 0
-  pub blocks : OutputFits o (length b.bytes.items)
-  pub fits : n ≤ length b.bytes.items
-
--- ---- the whole
-
--- all bytes of an output
-abbrev pub output_size : Output → ℕ
-output_size o = size_by o.header o.layout.now.catalogue o.nodes.now o.kinds.now
+-- the bytes of all payloads
+abbrev pub payload_lengths : Output → List ℕ
+payload_lengths o = map (payload_length o) (numbers_below (length o.nodes.now))
 
 -- all of an output, by the source's bytes, where addresses in each node name this
 abbrev pub output_form : Namings → Output → List ℕ → List ℕ
 output_form names o b =
     ((header_written o.header ++ flat_map (λ k. block_bytes (names k) o b k) (numbers_below (length o.nodes.now)))
-    ++ catalogue_block o.header o.layout.now.catalogue) ++ end_written o.header
-
--- so many bytes are those of the written form of a draft of a file's own nodes, by some kinds of its raw nodes
-abbrev pub IsFormSize : Outline → Draft → ℕ → Type 0
-IsFormSize o d n = (kinds : List RawKind) × (n ≡ size_by o.header o.layout.catalogue (entry_heads o.nodes d.entries) kinds)
+    ++ catalogue_block o.header (target_of o)) ++ end_written o.header
 
 -- the written form of the graph of a draft
 abbrev pub selection_form : List File → Draft → List ℕ

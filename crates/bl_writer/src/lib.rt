@@ -3,14 +3,15 @@
 
 mod blocks;
 mod buffer;
-mod element;
+mod elements;
 mod fault;
 mod measure;
 mod node_images;
 mod nodes;
 mod output;
+mod output_staged;
 mod payloads;
-mod plans;
+mod prepared;
 mod rendering;
 mod staging;
 

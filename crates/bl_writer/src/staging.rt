@@ -9,13 +9,13 @@ ghost use Rattle.bl_shelf.specs.Told.{push_in};
 ghost use Rattle.bl_file.specs.Calls.{IsOpen, Tells};
 ghost use Rattle.bl_file.specs.Frames.{CountsReads};
 ghost use Rattle.bl_writer.specs.Calls.{Pushes, PushesFrom};
-ghost use Rattle.bl_writer.specs.Lengths.{form_length};
-ghost use Rattle.bl_writer.specs.Outputs.{IsOutput, IsReady, output_length, output_scratch, block_bytes, outputs_length, OutputFits, OutputScratchFits, output_form};
+ghost use Rattle.bl_writer.specs.Lengths.{IsReady, OutputFits, OutputScratchFits, blocks_length, form_length, node_scratch};
+ghost use Rattle.bl_writer.specs.Outputs.{ArePayloadsShort, IsOutput, block_bytes, block_length, output_form, payload_length, target_of};
 ghost use Rattle.bl_writer.specs.Rendering.{end_written, AddsOf, CanAdd, HasAdded, pending};
 
 use crate::blocks::write_block;
 use crate::buffer::{OutBuffer, add_bytes, make_room, push_last};
-use crate::nodes::output_length;
+use crate::nodes::block_length;
 use crate::output::Output;
 use bl_blocks::{LONGEST_HEAD, head_size, write_end, write_head};
 use bl_file::{Head, Header, Payload, Targets};
@@ -36,20 +36,21 @@ fn add_block<S: Shelf, P: Payload, T: Targets>(
     requires targets { T.count targets.now ≡ length output.now.nodes.now }
     requires held { IsOpen S.Shelf P.Payload shelf.old payload.old }
     requires k { k < length output.now.nodes.now }
-    requires scratch { output_scratch output.now k ≤ length scratch.old }
-    requires can { CanAdd S.Shelf shelf.old buffer.old (output_length output.now k)
-        (output_length output.now k) }
+    requires short { payload_length output.now k < 2 ^ 31 }
+    requires scratch { node_scratch output.now k ≤ length scratch.old }
+    requires can { CanAdd S.Shelf shelf.old buffer.old (block_length output.now k)
+        (block_length output.now k) }
     ensures scratch { length scratch.new ≡ length scratch.old }
     ensures adds { OnOk result (Tells S.Shelf P.Payload shelf.old payload.old (λ b.
         AddsOf (S.told shelf.old) (pending buffer.old)
-        (block_bytes (T.names targets.now k) output.now b k) (output_length output.now k)
+        (block_bytes (T.names targets.now k) output.now b k) (block_length output.now k)
         (S.told shelf.new) (pending buffer.new))) }
     ensures added { OnOk result (HasAdded S.Shelf shelf.old shelf.new buffer.old buffer.new
-        (output_length output.now k)) }
+        (block_length output.now k)) }
     ensures stays { PushesFrom S.Shelf P.Payload shelf.old shelf.new payload.old payload.new }
     ensures cause { CountsReads S.Shelf shelf.old shelf.new result }
 {
-    let len = output_length(output, k) as usize;
+    let len = block_length(output, k) as usize;
     let at = make_room(buffer, shelf, len)?;
     let (_, rest) = buffer.bytes.as_mut_slice().split_at_mut(at);
     let (own, _) = rest.split_at_mut(len);
@@ -70,18 +71,19 @@ fn add_blocks<S: Shelf, P: Payload, T: Targets>(
     requires output { IsOutput output.now (P.file_size payload.old) }
     requires targets { T.count targets.now ≡ length output.now.nodes.now }
     requires held { IsOpen S.Shelf P.Payload shelf.old payload.old }
+    requires short { ArePayloadsShort output.now }
     requires scratch { OutputScratchFits output.now (length scratch.old) }
     requires long { OutputFits output.now (length buffer.old.bytes.items) }
     requires can { CanAdd S.Shelf shelf.old buffer.old 0
-        (outputs_length output.now (length output.now.nodes.now)) }
+        (blocks_length output.now (length output.now.nodes.now)) }
     ensures adds { OnOk result (Tells S.Shelf P.Payload shelf.old payload.old (λ b.
         AddsOf (S.told shelf.old) (pending buffer.old)
         (flat_map (λ k. block_bytes (T.names targets.now k) output.now b k)
         (numbers_below (length output.now.nodes.now)))
-        (outputs_length output.now (length output.now.nodes.now))
+        (blocks_length output.now (length output.now.nodes.now))
         (S.told shelf.new) (pending buffer.new))) }
     ensures added { OnOk result (HasAdded S.Shelf shelf.old shelf.new buffer.old buffer.new
-        (outputs_length output.now (length output.now.nodes.now))) }
+        (blocks_length output.now (length output.now.nodes.now))) }
     ensures stays { PushesFrom S.Shelf P.Payload shelf.old shelf.new payload.old payload.new }
     ensures cause { CountsReads S.Shelf shelf.old shelf.new result }
 {
@@ -161,17 +163,18 @@ pub fn write_all<S: Shelf, P: Payload, T: Targets>(
     requires targets { T.count targets.now ≡ length output.now.nodes.now }
     requires held { IsOpen S.Shelf P.Payload shelf.old payload.old }
     requires catalogue { catalogue.now
-        ≡ catalogue_written output.now.header.order output.now.layout.now.catalogue }
+        ≡ catalogue_written output.now.header.order (target_of output.now) }
+    requires short { ArePayloadsShort output.now }
     requires scratch { OutputScratchFits output.now (length scratch.old) }
     requires ready { IsReady output.now (LONGEST_HEAD + length catalogue.now) buffer.old }
     requires room { S.room shelf.old ≡ Some (form_length output.now.header
-        (outputs_length output.now (length output.now.nodes.now)) (length catalogue.now)) }
+        (blocks_length output.now (length output.now.nodes.now)) (length catalogue.now)) }
     ensures pushed { OnOk result (Tells S.Shelf P.Payload shelf.old payload.old (λ b.
         S.told shelf.new
         ≡ option_map (push_in (output_form (T.names targets.now) output.now b)) (S.told shelf.old))) }
     ensures length { OnOk result (Tells S.Shelf P.Payload shelf.old payload.old (λ b.
         length (output_form (T.names targets.now) output.now b) ≡ form_length output.now.header
-        (outputs_length output.now (length output.now.nodes.now)) (length catalogue.now))) }
+        (blocks_length output.now (length output.now.nodes.now)) (length catalogue.now))) }
     ensures room { OnOk result (S.room shelf.new ≡ Some 0) }
     ensures stays { PushesFrom S.Shelf P.Payload shelf.old shelf.new payload.old payload.new }
     ensures cause { CountsReads S.Shelf shelf.old shelf.new result }

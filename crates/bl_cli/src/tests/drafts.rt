@@ -1,12 +1,15 @@
 // Drafts of whole files, and what is told of their entries.
-ghost use Rattle.std.specs.Prelude.{◌≡◌, IfOk, IfSome};
+ghost use Rattle.std.specs.Prelude.{◌≡◌, IfOk, IfSome, length};
 ghost use Rattle.bl_file.specs.Held.{IsHeldAnd};
 ghost use Rattle.bl_file.specs.Outlines.{IsSound, StandsFor};
-ghost use Rattle.bl_draft.specs.Own.{IsOwnDraft};
+ghost use Rattle.bl_draft.specs.Own.{IsSourceDraft};
 
 use super::examples::{catalogue_in, changed};
-use bl_draft::{Draft, Entry, heads_of, is_of_all, kinds_of_entries, targets_of, whole_draft};
-use bl_file::{Head, Opened, Payload, RawKind, Targets, WholePayload, open};
+use bl_draft::{
+    Draft, Entry, EntryTargets, heads_of, is_of_all, kinds_of_entries, structs_of, targets_of,
+    whole_draft,
+};
+use bl_file::{Head, Opened, Outline, Payload, RawKind, Targets, WholePayload, open};
 use bl_layout::{Layout, copy_of};
 use bl_num::{NoMemory, Order, Width};
 use bl_shelf::{Shelf, SteadyShelf};
@@ -168,7 +171,9 @@ const MESHES: &[u8] = b"BLENDER-v405\
 // The draft of all nodes of a file, under the file's own header and catalogue.
 fn own_draft<P>(alloc: Global, file: &Opened<P>) -> Result<Draft, NoMemory>
     requires { IsSound file.now.outline }
-    ensures { IfOk result (IsOwnDraft file.now.outline) }
+    ensures source { IfOk result (IsSourceDraft file.now.outline) }
+    ensures catalogue { IfOk result (λ draft. file.now.outline.layout.catalogue ≡ draft.catalogue) }
+    ensures width { IfOk result (λ draft. file.now.outline.layout.width ≡ draft.header.width) }
 {
     let outline = &file.outline;
     let catalogue = copy_of(alloc, outline.layout.catalogue())?;
@@ -192,6 +197,30 @@ fn places<P>(alloc: Global, file: &Opened<P>) -> Option<[u64; 3]>
     places_of(&heads)
 }
 
+// What addresses name from the entries of a draft under the file's own catalogue.
+fn own_targets<'a>(
+    alloc: Global,
+    outline: &'a Outline,
+    draft: &'a Draft,
+) -> Option<EntryTargets<'a>>
+    requires sound { IsSound outline.now }
+    requires draft { IsSourceDraft outline.now draft.now }
+    requires catalogue { outline.now.layout.catalogue ≡ draft.now.catalogue }
+    requires width { outline.now.layout.width ≡ draft.now.header.width }
+    ensures { IfSome result (λ targets. length targets.groups ≡ length draft.now.entries) }
+{
+    let Ok(heads) = heads_of(alloc, outline, draft) else {
+        return None;
+    };
+    let Ok(structs) = structs_of(alloc, outline, draft, &outline.layout, &heads) else {
+        return None;
+    };
+    match targets_of(alloc, outline, draft, &structs, &heads) {
+        Ok(targets) => Some(targets),
+        Err(_) => None,
+    }
+}
+
 // Whether an address names this from an entry of the file's own draft.
 fn is_named<P>(
     alloc: Global,
@@ -203,7 +232,7 @@ fn is_named<P>(
     requires { IsSound file.now.outline }
 {
     let draft = own_draft(alloc, file).ok()?;
-    let targets = targets_of(alloc, &file.outline, &draft).ok()?;
+    let targets = own_targets(alloc, &file.outline, &draft)?;
     if (entry as usize) < draft.entries.as_slice().len() {
         Some(targets.target(entry, address) == want)
     } else {
@@ -244,9 +273,15 @@ fn have_kinds<S: Shelf, P: Payload>(
     };
     let outline = &file.outline;
     let heads = heads_of(alloc, outline, &draft).ok()?;
-    let targets = targets_of(alloc, outline, &draft).ok()?;
+    let Ok(structs) = structs_of(alloc, outline, &draft, &outline.layout, &heads) else {
+        return None;
+    };
+    let targets = targets_of(alloc, outline, &draft, &structs, &heads).ok()?;
     let payload = &mut file.payload;
-    let kinds = kinds_of_entries(alloc, outline, &draft, &heads, &targets, payload, shelf).ok()?;
+    let kinds = kinds_of_entries(
+        alloc, outline, &draft, &structs, &heads, &targets, payload, shelf,
+    )
+    .ok()?;
     Some(kinds.as_slice() == want)
 }
 

@@ -75,11 +75,14 @@ pub fn changed(alloc: Global, bytes: &[u8], at: usize, part: &[u8]) -> Result<Ve
     Ok(changed)
 }
 
-/// A file of version 4.05 with these blocks and this catalogue of 392 bytes.
+/// A file of version 4.05 with these blocks and this catalogue, of less than 65,536 bytes.
 pub fn file_of(alloc: Global, blocks: &[u8], catalogue: &[u8]) -> Result<Vec<u8>, AllocError> {
     let mut file = Vec::from_slice(alloc, b"BLENDER-v405")?;
     file.extend_from_slice(blocks)?;
-    file.extend_from_slice(b"DNA1\x88\x01\0\0\0\0\0\0\0\0\0\0\0\0\0\0\x01\0\0\0")?;
+    let len = catalogue.len();
+    file.extend_from_slice(b"DNA1")?;
+    file.extend_from_slice(&[(len % 256) as u8, (len / 256 % 256) as u8, 0, 0])?;
+    file.extend_from_slice(b"\0\0\0\0\0\0\0\0\0\0\0\0\x01\0\0\0")?;
     file.extend_from_slice(catalogue)?;
     file.extend_from_slice(b"ENDB\0\0\0\0\0\0\0\0\0\0\0\0\0\0\0\0\0\0\0\0")?;
     Ok(file)

@@ -4,11 +4,11 @@ ghost use Rattle.std.specs.Str.{bytes_eq};
 ghost use Rattle.bl_selection.specs.declared.draft.Entry.TheVariants.{Source};
 ghost use Rattle.bl_selection.specs.Selection.{draft_of};
 ghost use Rattle.bl_file.specs.Outlines.{IsSound};
-ghost use Rattle.bl_draft.specs.Own.{IsOwnDraft};
+ghost use Rattle.bl_draft.specs.Own.{IsSourceDraft};
 ghost use Rattle.bl_draft.specs.Sources.{AreOpen};
 
-use bl_draft::{Draft, Entry};
-use bl_file::{Opened, Outline, Payload, WholePayload, open};
+use bl_draft::{Draft, Entry, kinds_for};
+use bl_file::{Opened, Outline, Payload, RawKind, WholePayload, open};
 use bl_format::{Catalogue, Head, Header};
 use bl_layout::copy_of;
 use bl_num::{Items, NoMemory};
@@ -108,7 +108,7 @@ fn last_two_under(alloc: Global, header: Header, catalogue: Catalogue) -> Result
 // the file has two groups as in the test.
 fn second_group(alloc: Global, outline: &Outline) -> Result<Option<Draft>, NoMemory>
     requires { IsSound outline.now }
-    ensures { IfOk result (λ found. IfSome found (IsOwnDraft outline.now)) }
+    ensures { IfOk result (λ found. IfSome found (IsSourceDraft outline.now)) }
 {
     if !are_two_groups(outline.nodes.as_slice()) {
         return Ok(None);
@@ -152,21 +152,50 @@ fn store_second_group<S: Shelf>(alloc: Global, shelf: &mut S) -> Option<Totals>
     }
 }
 
+// Whether the entries of a draft of an opened file's nodes have these kinds.
+fn have_kinds<S: Shelf, P: Payload>(
+    alloc: Global,
+    draft: &Draft,
+    files: &mut [Opened<P>],
+    shelf: &mut S,
+    want: &[RawKind],
+) -> bool
+    requires { AreOpen S.Shelf P.Payload shelf.old draft.now files.old }
+{
+    match kinds_for(alloc, draft, files, shelf) {
+        Ok(kinds) => kinds.as_slice() == want,
+        Err(_) => false,
+    }
+}
+
+// Whether the second group of the file `a` has these kinds.
+fn has_kinds<S: Shelf>(alloc: Global, shelf: &mut S, want: &[RawKind]) -> bool {
+    let mut files = match open::<S, WholePayload>(alloc, shelf, "a", 0) {
+        Ok(file) => [file],
+        Err(_) => return false,
+    };
+    match second_group(alloc, &files[0].outline) {
+        Ok(Some(draft)) => have_kinds(alloc, &draft, &mut files, shelf, want),
+        _ => false,
+    }
+}
+
 // Whether a name has these bytes.
 fn has(shelf: &SteadyShelf, name: &str, bytes: &[u8]) -> bool {
     shelf.bytes_of(name) == Some(bytes)
 }
 
-// Whether the second of two groups is stored as it should be.
+// Whether the second of two groups has the kinds that it should have, and is stored as it should be.
 fn stores_second_group(alloc: Global) -> Result<bool, NoMemory> {
     let mut shelf = SteadyShelf::new(alloc);
     shelf.hold("a", TWO_GROUPS)?;
     let totals = store_second_group(alloc, &mut shelf);
+    let kinds = has_kinds(alloc, &mut shelf, &[RawKind::Bytes, RawKind::Numbers(4)]);
     let expected = Totals {
         blocks: 2,
         bytes: 240,
     };
-    Ok(totals == Some(expected) && has(&shelf, "b", SECOND_GROUP))
+    Ok(kinds && totals == Some(expected) && has(&shelf, "b", SECOND_GROUP))
 }
 
 #[test]

@@ -19,21 +19,26 @@ const FATES: &[&str] = &["fates", "a", "b"];
 
 const OWN_FATES: &[&str] = &["fates", "a", "a"];
 
-// What a run meets: a file `a`, a file `b` where it has bytes, and calls that fail.
+/// What a run meets: a file `a`, a file `b` where it has bytes, and calls that fail.
 #[derive(Clone, Copy)]
-struct Scene<'a> {
-    a: &'a [u8],
-    b: &'a [u8],
+pub struct Scene<'a> {
+    pub a: &'a [u8],
+    pub b: &'a [u8],
     failing_calls: &'a [u64],
     takes_effect: bool,
     failing_puts: &'a [u64],
 }
 
-// A file beside what a run left before, where no call fails.
-fn quiet(a: &[u8]) -> Scene<'_> {
+/// A file beside what a run left before, where no call fails.
+pub fn quiet(a: &[u8]) -> Scene<'_> {
+    two_files(a, b"before")
+}
+
+/// A file beside another, where no call fails.
+pub fn two_files<'a>(a: &'a [u8], b: &'a [u8]) -> Scene<'a> {
     Scene {
         a,
-        b: b"before",
+        b,
         failing_calls: &[],
         takes_effect: false,
         failing_puts: &[],
@@ -57,8 +62,8 @@ fn ends<S: Shelf>(
     Ok(ended == status && sink.bytes() == text)
 }
 
-// Whether a run ends so, and leaves these bytes as `a` and as `b`.
-fn leaves(
+/// Whether a run ends so, and leaves these bytes as `a` and as `b`.
+pub fn leaves(
     alloc: Global,
     scene: &Scene,
     all: &[&str],
@@ -357,8 +362,7 @@ const OWN_FATES_PRINTED: &str = "struct Same\n  kept kept\n  cast kept\n  cut[8]
 
 // Whether these are the fates under the other file, and under a file's own catalogue.
 fn are_fates_printed(alloc: Global, printed: &str, own: &str) -> Result<bool, NoMemory> {
-    let mut scene = quiet(FROM);
-    scene.b = TO;
+    let scene = two_files(FROM, TO);
     let (text, own_text) = (printed.as_bytes(), own.as_bytes());
     Ok(
         leaves(alloc, &scene, FATES, 0, text, FROM, Some(TO))?
@@ -366,10 +370,38 @@ fn are_fates_printed(alloc: Global, printed: &str, own: &str) -> Result<bool, No
     )
 }
 
+// The catalogue of the worked examples, with a shorter name, a `short` for an `int`, and a pointer more in struct `ID`.
+const CHANGED: &[u8] =
+    b"SDNANAME\x15\0\0\0*next\0*prev\0*newid\0*lib\0name[24]\0flag\0us\0id\0name[1024]\0*parent\0*\
+    data\0loc[3]\0type\0_pad[2]\0*index\0*co\0**users\0*extra\0totindex\0totco\0*orig_id\0\0TYPE\
+    \x0e\0\0\0char\0uchar\0short\0ushort\0int\0int64_t\0float\0double\0void\0Link\0ID\0Library\0\
+    Object\0Mesh\0\0\0TLEN\x01\0\x01\0\x02\0\x02\0\x04\0\x08\0\x04\0\x08\0\0\0\x10\0D\0D\x04d\0l\
+    \0STRC\x05\0\0\0\x09\0\x02\0\x09\0\0\0\x09\0\x01\0\x0a\0\x08\0\x08\0\0\0\x08\0\x01\0\x0a\0\
+    \x02\0\x0b\0\x03\0\0\0\x04\0\x02\0\x05\0\x02\0\x06\0\x0a\0\x14\0\x0b\0\x02\0\x0a\0\x07\0\0\0\
+    \x08\0\x0c\0\x06\0\x0a\0\x07\0\x0c\0\x09\0\x0d\0\x0a\0\x06\0\x0b\0\x02\0\x0c\0\0\0\x0d\0\x0d\
+    \0\x07\0\x0a\0\x07\0\x04\0\x0e\0\x06\0\x0f\0\x0c\0\x10\0\x08\0\x11\0\x04\0\x12\0\x04\0\x13\0";
+
+const CHANGED_PRINTED: &str =
+    "struct Link\n  *next kept\n  *prev kept\nstruct ID\n  *next kept\n  *prev kept\n  \
+    *newid kept\n  *lib kept\n  name[24] cut\n  flag kept\n  us cast\n  *orig_id fresh\n\
+    struct Library\n  id kept\n  name[1024] kept\nstruct Object\n  id kept\n  *parent kept\n  \
+    *data kept\n  loc[3] kept\n  type kept\n  _pad[2] kept\nstruct Mesh\n  id kept\n  *index kept\n  \
+    *co kept\n  **users kept\n  *extra kept\n  totindex kept\n  totco kept\n";
+
+// Whether these are the fates of the changed members.
+fn are_changes_printed(alloc: Global, printed: &str) -> Result<bool, NoMemory> {
+    let from = file_of(alloc, b"", example(Order::Little))?;
+    let to = file_of(alloc, b"", CHANGED)?;
+    let scene = two_files(&from, &to);
+    let text = printed.as_bytes();
+    leaves(alloc, &scene, FATES, 0, text, &from, Some(&to))
+}
+
 #[test]
 fn prints_fates(rt: HostRuntime) {
     let printed = are_fates_printed(rt.alloc(), FATES_PRINTED, OWN_FATES_PRINTED);
     assert_eq!(rt; printed, Ok(true));
+    assert_eq!(rt; are_changes_printed(rt.alloc(), CHANGED_PRINTED), Ok(true));
 }
 
 // Two structs of four bytes, and a block of struct 1 that has three.
@@ -540,6 +572,18 @@ fn answers_by_its_words(rt: HostRuntime) {
         (&["fates", "c", "b"], 4, "absent c\n"),
         (&["fates", "a", "c"], 4, "absent c\n"),
         (&["fates", "a", "b"], 6, "bad file b: BadMagic\n"),
+        (&["convert", "a", "b", "--like", "c"], 4, "absent c\n"),
+        (&["convert", "c", "b", "--like", "b"], 4, "absent c\n"),
+        (
+            &["convert", "a", "b", "--like", "b"],
+            6,
+            "bad file b: BadMagic\n",
+        ),
+        (
+            &["convert", "a", "b", "--like", "a", "--order", "big"],
+            2,
+            "usage\n",
+        ),
         (&["convert", "a"], 2, "usage\n"),
         (&["convert", "a", "b", "--width", "4"], 2, "usage\n"),
         (&["schema", "a", "b"], 2, "usage\n"),

@@ -19,8 +19,8 @@ use Rattle.bl_file.specs.Held.{IsHeldAnd}
 use Rattle.bl_file.specs.Opening.{file_in, open_fault}
 use Rattle.bl_file.specs.Outlines.{StandsFor, file_with}
 use Rattle.bl_run.specs.Blame.{BlamesRisen, IsEndingOf, MayMiss}
-use Rattle.bl_run.specs.Commands.Fates.{fates_effect, fates_meaning, fates_of, fates_outcome, AreFatesPrinted, IsHeldAs}
-use Rattle.bl_run.specs.Input.{IsChecked, bytes_held, open_ending, opening_check, two_input_checks}
+use Rattle.bl_run.specs.Commands.Fates.{fates_effect, fates_meaning, fates_of, fates_outcome, AreFatesPrinted}
+use Rattle.bl_run.specs.Input.{IsChecked, bytes_held, open_ending, opening_check, two_input_checks, IsHeldAs}
 use Rattle.bl_run.specs.Meaning.{IsDone, IsLawful, names_of_files, unless_ending}
 use Rattle.bl_run.specs.Opened.{IsUnopened}
 use Rattle.bl_run.proofs.Inputs.{IsPassed, first_ends, misses_wider, none_of_two, opening_passed, second_ends, takes_effect, two_able, two_caused, two_own, two_pass}

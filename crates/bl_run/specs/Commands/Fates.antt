@@ -1,7 +1,6 @@
 -- The command `fates IN CAT`: what becomes of each member of the structs of CAT's catalogue, by those of IN's, as text.
 -- This project's own.
 use Rattle.std.specs.Prelude.{◌≡◌, ◌⊎◌, ⊤, ℕ, List, [], length, Option, Some, None, Result}
-use Rattle.std.specs.FinMap.{get}
 use Rattle.bl_format.specs.Nodes.{File}
 use Rattle.bl_commands.specs.declared.ending.Ending.{Ending}
 use Rattle.bl_commands.specs.Texts.{Text}
@@ -10,7 +9,7 @@ use Rattle.bl_answers.specs.Fates.{fates_text}
 use Rattle.bl_shelf.specs.Told.{Held}
 use Rattle.bl_shelf.specs.Written.{Grows}
 use Rattle.bl_file.specs.Opening.{file_in}
-use Rattle.bl_run.specs.Input.{bytes_held, two_input_checks, IsAcceptedFile, AreReadable, HasInputCause}
+use Rattle.bl_run.specs.Input.{bytes_held, two_input_checks, AreReadable, IsHeldAs, HasInputCause}
 use Rattle.bl_run.specs.Meaning.{Effect, Meaning, unless_ending}
 
 -- the text of what becomes of the members of one file's structs, by those of another
@@ -25,12 +24,6 @@ fates_effect b c = record { file = None; text = fates_of (file_in b) (file_in c)
 unfoldable pub fates_outcome : Held → List ℕ → List ℕ → Result Effect Ending
 fates_outcome held input cat =
     unless_ending (first_ending (two_input_checks held input cat)) (fates_effect (bytes_held held input) (bytes_held held cat))
-
--- the bytes under a name are held, and accepted as this file
-pub record IsHeldAs (held : Held) (name : List ℕ) (f : File) : Type 0 where
-  pub b : List ℕ
-  pub is_held : get held name ≡ Some b
-  pub accepted : IsAcceptedFile b f
 
 -- both inputs are held and accepted, the fates are printed, and what is held is as before
 pub record AreFatesPrinted (held : Held) (held' : Option Held) (written written' : Option Text) (input cat : List ℕ) : Type 0 where

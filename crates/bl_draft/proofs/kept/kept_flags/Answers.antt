@@ -19,6 +19,6 @@ loop-node-preserved c =
     ] in
     let more : KeptSoFar to f (i + 1) next (kept ++ (own && next) ∷ []) =
     kept-more to f c.deref.result.now i c.loop-node.stays next own kept _ c.requires.nodes
-    (c.deref.ensures.value ∙ c.in_ok-shared.ensures) c.loop-node-test.true c.is_shared-own.ensures
+    (c.deref.ensures.value ∙ c.in_ok-numbers.ensures) c.loop-node-test.true c.is_shared-own.ensures
     c.head_stays-stays.ensures c.loop-node.invariant in
     subst (KeptSoFar to f (i + 1) next) (sym (c.in_ok-push.ensures.items ∙ ap (λ b. kept ++ b ∷ []) both)) more

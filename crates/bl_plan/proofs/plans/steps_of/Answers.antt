@@ -4,7 +4,7 @@ use Rattle.std.specs.declared.alloc.Global.{Global}
 use Rattle.bl_format.specs.Layout.{named_leaves, struct_length}
 use Rattle.bl_plan.specs.declared.steps.Step.{Step}
 use Rattle.bl_plan.specs.Plans.{IsFaultOf}
-use Rattle.bl_plan.proofs.PlanLaws.{IsPlanned, plan_begun, plan_made, leaf_met, fits_short, planned_fresh, planned_step, planned_clash, planned_passes}
+use Rattle.bl_plan.proofs.PlanLaws.{IsPlanned, plan_begun, plan_made, leaf_met, planned_fresh, planned_step, planned_clash, planned_passes}
 use Rattle.bl_plan.proofs.plans.steps_of.Goals as goal
 use Rattle.bl_plan.proofs.plans.steps_of.Goals.{in-Fresh, in-Carried+in_ok-push_step-in-Carried}
 
@@ -13,20 +13,6 @@ loop-leaf-init c =
     let from = c.args.from.now in
     let to = c.args.to.now in
     plan_begun from.catalogue from.width c.args.s to.catalogue to.width c.args.t c.in_ok-steps.steps.items c.leaf_count-targets.ensures.has_layout c.in_ok-steps.ensures.items
-
-pub push_step-requires-clause-steps : goal.push_step-requires-clause-steps
-push_step-requires-clause-steps c = λ k d lt.
-    let from = c.args.from.now in
-    fits_short from.catalogue from.width c.args.s _ c.leaf_count-sources.ensures.has_layout c.requires.s (c.loop-leaf.invariant.fits k d lt)
-
-pub push_step-requires-clause-step : goal.push_step-requires-clause-step
-push_step-requires-clause-step c =
-    let from = c.args.from.now in
-    let to = c.args.to.now in
-    let lt : c.loop-leaf.leaf < length (named_leaves to.catalogue to.width c.args.t) = omega (arith, c.loop-leaf-test.true, c.leaf_count-targets.ensures.count) in
-    let met = leaf_met from.catalogue from.width c.args.s to.catalogue to.width c.args.t c.loop-leaf.leaf c.args.found.now _ c.meeting_of.result _
-    c.leaf_count-sources.ensures.has_layout c.leaf_count-targets.ensures.has_layout c.requires.found lt c.meeting_of.ensures c.in-Carried.is in
-    fits_short from.catalogue from.width c.args.s c.in-Carried.step c.leaf_count-sources.ensures.has_layout c.requires.s met.0.fits
 
 pub returns-in-Clash-clause-refuses : goal.returns-in-Clash-clause-refuses
 returns-in-Clash-clause-refuses c =

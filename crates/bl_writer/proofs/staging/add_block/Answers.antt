@@ -14,7 +14,7 @@ returns-clause-adds g c =
     let name = g.P.Payload.file_name c.args.payload.now in
     let b = c.args.buffer.now in
     let at = c.in_ok-at.at in
-    let n = c.output_length-len.result in
+    let n = c.block_length-len.result in
     let front = c.split_at_mut-rest.result.0.now in
     let own = c.write_block.new.dst in
     let rest = c.split_at_mut-own.result.1.now in
@@ -23,7 +23,7 @@ returns-clause-adds g c =
     let slice_len = ap (λ (xs : List ℕ). length xs) c.as_mut_slice.ensures.value in
     let long : length (front ++ (own ++ rest)) ≡ b.bytes.len =
     omega (arith, length-append front (own ++ rest), length-append own rest, c.split_at_mut-rest.ensures.front_len, c.split_at_mut-rest.ensures.back_len, c.split_at_mut-own.ensures.back_len, own_len, slice_len, b.bytes.ok, c.in_ok-at.ensures.fits) in
-    rw (c.write_block.ensures.stays.shelf.told, ← c.output_length-len.ensures)
+    rw (c.write_block.ensures.stays.shelf.told, ← c.block_length-len.ensures)
     (subst (λ (xs : List ℕ). IsHeldAnd told name (λ x. AddsOf told (pending b) (block x) n after (take (at + n) xs)))
     (sym (with_items_is b.bytes (front ++ (own ++ rest)) long))
     (IsHeldAnd-then told name (λ x. own ≡ block x) _
@@ -33,5 +33,5 @@ returns-clause-adds g c =
 
 pub returns-clause-added : goal.returns-clause-added
 returns-clause-added g c =
-    let part = added_written g.S.Shelf c.args.shelf.now c.make_room.new.shelf c.args.buffer.now _ c.in_ok-at.at c.output_length-len.result c.in_ok-at.ensures.fits c.in_ok-at.ensures.room in
-    added_read c.write_block.new.shelf c.output_length-len.result _ part c.write_block.ensures.stays.shelf.room c.output_length-len.ensures
+    let part = added_written g.S.Shelf c.args.shelf.now c.make_room.new.shelf c.args.buffer.now _ c.in_ok-at.at c.block_length-len.result c.in_ok-at.ensures.fits c.in_ok-at.ensures.room in
+    added_read c.write_block.new.shelf c.block_length-len.result _ part c.write_block.ensures.stays.shelf.room c.block_length-len.ensures

@@ -1,9 +1,10 @@
 use Rattle.std.proofs.Common.{◌+◌, ◌≤◌, ◌<◌, ℕ, List, length, refl, sym, subst, ◌∙◌, arith}
 use Rattle.bl_file.specs.Held.{IsHeldAnd}
 use Rattle.bl_file.proofs.CallLemmas.{quiet_on}
-use Rattle.bl_writer.specs.Outputs.{block_bytes, output_length, outputs_length}
+use Rattle.bl_writer.specs.Outputs.{block_bytes, block_length}
+use Rattle.bl_writer.specs.Lengths.{blocks_length}
 use Rattle.bl_writer.specs.Rendering.{HasAdded}
-use Rattle.bl_writer.proofs.BlockLengths.{outputs_length-more, outputs_length-mono, outputs_length-none}
+use Rattle.bl_writer.proofs.BlockLengths.{blocks_length-more, blocks_length-mono, blocks_length-none}
 use Rattle.bl_writer.proofs.Renderings.{IsHeldAnd-both, IsHeldAnd-then, IsHeldAnd-same, adds_none, room_behind, room_less}
 use Rattle.bl_writer.proofs.Pushing.{pushes_none, pushes_from_on, added_none, added_more}
 use Rattle.bl_writer.proofs.OutputForm.{adds_number}
@@ -11,7 +12,7 @@ use Rattle.bl_writer.proofs.staging.add_blocks.Goals as goal
 
 pub loop-k-init : goal.loop-k-init
 loop-k-init g c =
-    let none = outputs_length-none c.args.output.now in
+    let none = blocks_length-none c.args.output.now in
     let shelf = c.args.shelf.now in
     let buffer = c.args.buffer.now in
     record {
@@ -29,12 +30,12 @@ add_block-requires-clause-can g c =
     let added = c.loop-k.invariant.added in
     let lt : k < length o.nodes.now = omega (arith, c.loop-k-test.true) in
     let le : k + 1 ≤ length o.nodes.now = omega (arith, c.loop-k-test.true) in
-    let mono = outputs_length-mono o (k + 1) (length o.nodes.now) le in
-    let more = outputs_length-more o k in
+    let mono = blocks_length-mono o (k + 1) (length o.nodes.now) le in
+    let more = blocks_length-more o k in
     record {
       filled = added.filled;
       fits = let fits = c.requires.long k lt in omega (arith, fits, added.long);
-      room = room_behind _ _ _ _ _ _ (room_less (g.S.Shelf.room c.args.shelf.now) c.args.buffer.now.filled (outputs_length o (length o.nodes.now)) (outputs_length o k + output_length o k) c.requires.can.room (omega (arith, mono, more))) added.room;
+      room = room_behind _ _ _ _ _ _ (room_less (g.S.Shelf.room c.args.shelf.now) c.args.buffer.now.filled (blocks_length o (length o.nodes.now)) (blocks_length o k + block_length o k) c.requires.can.room (omega (arith, mono, more))) added.room;
     }
 
 pub loop-k-preserved : goal.loop-k-preserved
@@ -50,7 +51,7 @@ loop-k-preserved g c =
     record {
       scratch = own.scratch ∙ inv.scratch;
       adds = IsHeldAnd-both start name _ _ _ (λ b first second. adds_number o (λ n. block_bytes (g.T.Targets.names c.args.targets.now n) o b n) k _ _ _ _ _ _ first second) inv.adds (here _ own.adds);
-      added = subst (λ n. HasAdded g.S.Shelf c.args.shelf.now c.add_block.new.shelf c.args.buffer.now c.add_block.new.buffer n) (sym (outputs_length-more o k)) (added_more g.S.Shelf c.args.shelf.now c.loop-k.shelf _ _ _ _ (outputs_length o k) (output_length o k) inv.added own.added);
+      added = subst (λ n. HasAdded g.S.Shelf c.args.shelf.now c.add_block.new.shelf c.args.buffer.now c.add_block.new.buffer n) (sym (blocks_length-more o k)) (added_more g.S.Shelf c.args.shelf.now c.loop-k.shelf _ _ _ _ (blocks_length o k) (block_length o k) inv.added own.added);
       stays = pushes_from_on inv.stays own.stays;
       quiet = quiet_on inv.quiet own.cause;
     }

@@ -1,15 +1,27 @@
 use Rattle.std.proofs.Common.{arith}
-use Rattle.bl_run.proofs.CommandLaws.Conversions.{conversion_ready, conversion_unrendered}
+use Rattle.bl_run.specs.Commands.Convert.{convert_meaning}
+use Rattle.bl_run.proofs.Drafted.{draft_not_usage, draft_ready, draft_unready}
 use Rattle.bl_run.proofs.commands.convert.stage_conversion.Goals as goal
 
-pub returns-in-Err-render-clause-unready : goal.returns-in-Err-render-clause-unready
-returns-in-Err-render-clause-unready g c =
-    let render = c.in-Err-render.ensures in
-    conversion_unrendered g.S.Shelf c.args.input.now c.args.name.now _ c.requires.idle _ c.in-Err-render.fault c.write_ending.result render.stages render.holds render.cause c.write_ending.ensures
+pub returns-in-Err-clause-unready : goal.returns-in-Err-clause-unready
+returns-in-Err-clause-unready g c = λ like writes.
+    let input = c.args.input.now in
+    let name = c.args.name.now in
+    let file = c.args.file in
+    let render = c.in-Err.ensures in
+    draft_unready g.S.Shelf (convert_meaning input name like) input name _ c.args.draft.now writes _ _ file.outline file.payload c.requires.input render.stages render.holds
+    c.in-Err.fault c.write_ending.result render.cause (render.limits 0 file (omega arith)) c.write_ending.ensures
+
+pub returns-in-Err-clause-spelled : goal.returns-in-Err-clause-spelled
+returns-in-Err-clause-spelled g c =
+    draft_not_usage c.args.draft.now.catalogue c.args.input.now c.in-Err.fault c.write_ending.result c.write_ending.ensures
 
 pub returns-in-Ok-summary_line-clause-ready : goal.returns-in-Ok-summary_line-clause-ready
-returns-in-Ok-summary_line-clause-ready g c =
+returns-in-Ok-summary_line-clause-ready g c = λ like writes.
+    let input = c.args.input.now in
+    let name = c.args.name.now in
     let file = c.args.file in
-    let render = c.in-Ok-render.ensures in
-    conversion_ready g.S.Shelf c.args.input.now c.args.name.now _ c.requires.idle _ _ file.outline file.payload c.in-Ok.draft c.in-Ok-render.totals c.in-Ok-summary_line.line.items
-    c.requires.input c.in-Ok.ensures.draft render.stages (render.totals 0 file (omega arith)) (render.staged 0 file (omega arith)) render.cause c.in-Ok-summary_line.ensures
+    let render = c.in-Ok.ensures in
+    let limits = render.limits 0 file (omega arith) in
+    draft_ready g.S.Shelf (convert_meaning input name like) input name _ c.args.draft.now writes _ _ file.outline file.payload c.in-Ok.totals c.in-Ok-summary_line.line.items
+    c.requires.input render.stages (render.totals 0 file (omega arith)) limits.0 limits.2 (render.staged 0 file (omega arith)) render.cause c.in-Ok-summary_line.ensures
