@@ -74,8 +74,7 @@ class Case:
     def __init__(self, folder, file=SMALL, old=OLD):
         self.folder, self.file = folder, file
         self.input, self.out = folder / "in", folder / "out"
-        self.made = convert.output(file)
-        self.line = convert.line(self.made)
+        _, self.line, self.made = convert.outcome(file)
         self.input.write_bytes(file)
         if old is not None:
             self.out.write_bytes(old)

@@ -54,7 +54,16 @@ def end(width=8):
     return b"ENDB" + bytes(8 + width + 4)
 
 
+def written(form, nodes, catalogue):
+    """A file of a form, with some blocks and the payload of a catalogue."""
+    def spell(block):
+        code = spelled(block.code, form.order)
+        return head(code, len(block.payload), *block[1:4], form.width, form.order) + block.payload
+
+    every = (*map(spell, nodes), spell(Block(b"DNA1", 0, 0, 1, catalogue)))
+    return b"".join((header(*form), *every, end(form.width)))
+
+
 def alone(payload, width=8, order="<", version=405):
     """A file of a catalogue and no other block."""
-    return (header(width, order, version) + head(b"DNA1", len(payload), width=width, order=order) + payload
-            + end(width))
+    return written(Form(width, order, version), (), payload)

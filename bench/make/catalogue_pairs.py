@@ -1,7 +1,8 @@
 """Pairs of small catalogues that are drawn at random, and share most structs and many members.
 
 Each is a catalogue with its width of pointers. A member has the same identifier in both, and now and then another
-type or other brackets in the second; structs and members are left out of either."""
+type or other brackets in the second; structs and members are left out of either. Some structs begin with `ID id`, in
+one or in both. Of every other pair no member is a float, so that none meets another number."""
 import random
 
 from blend.sdna import Catalogue
@@ -9,23 +10,26 @@ from blend.sdna import Catalogue
 BASIC = {b"char": (1,), b"int8_t": (1,), b"uchar": (1,), b"short": (2,), b"ushort": (2,), b"int": (4,), b"long": (4, 8),
          b"ulong": (4, 8), b"int64_t": (8,), b"uint64_t": (8,), b"float": (4,), b"double": (8,), b"void": (0,)}
 OPAQUE = (b"Opaque0", b"Opaque1")
-STRUCTS = [b"Struct%d" % number for number in range(6)] + [b"Struct \"\xc3\""]
+FLOATS = (b"float", b"double")
+STRUCTS = [b"ID"] + [b"Struct%d" % number for number in range(6)] + [b"Struct \"\xc3\""]
 IDENTIFIERS = 12
+MEMBERS = (0, 4, 9, 9, 9)
 BRACKETS = {b"": 1, b"[2]": 2, b"[3]": 3, b"[2][3]": 6, b"[0]": 0}
 MOST_LEAVES = 1_000
 
 
 class Pair:
-    def __init__(self, seed):
+    def __init__(self, seed, width=None):
         self.draw = random.Random(seed)
+        self.basic = [name for name in BASIC if seed % 2 == 0 or name not in FLOATS]
         self.members = {}
-        self.both = [self.side(changed) for changed in (False, True)]
+        self.both = [self.side(changed, width) for changed in (False, True)]
 
     def kind(self, below):
         sort = self.draw.randrange(8)
         if sort == 0:
             return self.draw.choice(OPAQUE)
-        return self.draw.choice(STRUCTS[:below]) if sort == 1 and below else self.draw.choice(list(BASIC))
+        return self.draw.choice(STRUCTS[:below]) if sort == 1 and below else self.draw.choice(self.basic)
 
     def member(self, owner, number):
         """A type and a name that a member may have."""
@@ -42,9 +46,15 @@ class Pair:
             self.members[place] = self.member(owner, number)
         return self.members[place]
 
-    def side(self, changed):
+    def begins_with_id(self, owner, changed):
+        """Whether a struct's first member is its `ID`, which may be another way in the second catalogue."""
+        if owner not in self.members or changed and self.draw.randrange(6) == 0:
+            self.members[owner] = owner != b"ID" and self.draw.randrange(2) == 0
+        return self.members[owner]
+
+    def side(self, changed, width):
         """One of the two catalogues: structs in order, so that a struct stands only in those behind it."""
-        width = self.draw.choice((4, 8))
+        width = width or self.draw.choice((4, 8))
         lengths = {name: self.draw.choice(sizes) for name, sizes in BASIC.items()}
         lengths.update((name, self.draw.randrange(4)) for name in OPAQUE)
         leaves, inside = dict.fromkeys(lengths, 1), {}
@@ -52,8 +62,10 @@ class Pair:
             if self.draw.randrange(8) == 0:
                 continue
             length, count, members = 0, 0, []
-            for number in self.draw.sample(range(IDENTIFIERS), IDENTIFIERS * 3 // 4):
-                kind, name = self.drawn(owner, number, changed)
+            drawn = [(b"ID", b"id")] if self.begins_with_id(owner, changed) else []
+            for number in self.draw.sample(range(IDENTIFIERS), self.draw.choice(MEMBERS)):
+                drawn.append(self.drawn(owner, number, changed))
+            for kind, name in drawn:
                 pointer, elements = name[:1] in (b"*", b"("), BRACKETS[name[name.index(b"["):] if b"[" in name else b""]
                 size = elements * (width if pointer else lengths.get(kind, 0))
                 more = elements * (1 if pointer else leaves.get(kind, 1))
@@ -75,6 +87,6 @@ class Pair:
         return Catalogue(names, types, [lengths.get(name, 0) for name in types], structs)
 
 
-def pair(seed):
-    """Two catalogues, each with its width."""
-    return Pair(seed).both
+def pair(seed, width=None):
+    """Two catalogues, each with its width: this one, or one that is drawn."""
+    return Pair(seed, width).both

@@ -6,8 +6,13 @@ and `one_group` are made a second time, twice as large, to show how the time gro
 
 Both programs read a file from the page cache and write a new one in the same folder, by turns. Of each file it prints
 the blocks, the bytes, the median seconds of both, their ratio, the peak memory of `convert`, and what that is for
-each block. An output has to convert to itself, and that of `raw` has the bytes that are known beforehand. The status
-is 1 where an output isn't right, and 0 whatever the times are."""
+each block. An output has to convert to itself, and that of `raw` has the bytes that are known beforehand.
+
+With `--like` each file is also converted under the catalogue of another file, by turns with the rest. `same` has the
+file's own catalogue, and the output has to be that of the file's own form. In `grown` each struct has a member more,
+and what becomes of the output under `same` has to be that. The last column is the time beside that of the own form.
+
+The status is 1 where an output isn't right, and 0 whatever the times are."""
 import argparse
 import hashlib
 import os
@@ -16,8 +21,11 @@ import statistics
 import tempfile
 
 import driver
-from make import apart, raw_blocks, repeated_blocks, struct_blocks
+from blend import example, parts, sdna
+from make import apart, grown_catalogues, raw_blocks, repeated_blocks, struct_blocks
 
+# The files whose catalogue a file is converted under.
+SAME, GROWN = "same", "grown"
 FILES = ("objects", "groups", "repeated", "slots", "one_group", "raw")
 # What a time may be at most beside that of `cp`, and how many bytes of memory a block.
 WANTED = {"raw": "at most 3, in memory twice the file and 64 MiB"}
@@ -38,6 +46,18 @@ def write_raw(folder, mebibytes, small):
     (folder / "digest").write_bytes(writer.expected.digest())
 
 
+def write_catalogues(folder, given, name):
+    """Writes the files that have the catalogue of a file, and the grown one, and no other block."""
+    form, payload = parts.Form(8, "<", 405), example.payload()
+    if name == "repeated":
+        sample = given.sample.read_bytes()
+        form = parts.form(sample)
+        payload = next(block.payload for block in parts.blocks(sample, form) if block.code == b"DNA1")
+    grown = grown_catalogues.grown(sdna.read(payload, form.order), form.width)
+    (folder / SAME).write_bytes(parts.alone(payload, *form))
+    (folder / GROWN).write_bytes(parts.alone(sdna.written(*grown, form.order), *form))
+
+
 def make(folder, given, name, count):
     if name == "raw":
         apart.call(write_raw, folder, given.mebibytes, count)
@@ -45,23 +65,35 @@ def make(folder, given, name, count):
         apart.call(repeated_blocks.write, folder / "input", given.sample, count)
     else:
         apart.call(struct_blocks.write, folder / "input", name, count)
+    if given.like:
+        apart.call(write_catalogues, folder, given, name)
     os.sync()
     digest(folder / "input")
 
 
+def convert(folder, given, name, out, like=None):
+    return driver.Run([given.program, "convert", name, out, *(["--like", like] if like else [])], folder)
+
+
+def output(like):
+    """The name of the output under the catalogue of a file, or in a file's own form."""
+    return f"output-{like}" if like else "output"
+
+
 def measure(folder, given):
-    """The median seconds of `cp`, and the runs of `convert`."""
-    copied, runs = [], []
+    """The median seconds of `cp`, and the runs of `convert` by the catalogue's file, where none is the own form."""
+    copied, runs = [], {like: [] for like in ((None, SAME, GROWN) if given.like else (None,))}
     for _ in range(given.rounds):
-        for name in ("copy", "output"):
+        for name in ("copy", *map(output, runs)):
             (folder / name).unlink(missing_ok=True)
         copied.append(driver.Run(["cp", "input", "copy"], folder).seconds)
-        runs.append(driver.Run([given.program, "convert", "input", "output"], folder))
+        for like, found in runs.items():
+            found.append(convert(folder, given, "input", output(like), like))
     return statistics.median(copied), runs
 
 
 def faults(folder, given, name, runs):
-    """What is wrong with the answers on a file, and with its output."""
+    """What is wrong with the answers in a file's own form, and with the output."""
     status, line = runs[0].answer
     if {run.answer for run in runs} != {(0, line)}:
         yield f"{ {run.answer for run in runs} }"
@@ -71,22 +103,43 @@ def faults(folder, given, name, runs):
     made = digest(folder / "output")
     if name == "raw" and made != (folder / "digest").read_bytes():
         yield "the output isn't the input's blocks with new addresses, the catalogue and the end"
-    again = driver.Run([given.program, "convert", "output", "again"], folder).answer
+    again = convert(folder, given, "output", "again").answer
     if again != (0, line) or digest(folder / "again") != made:
         yield "the output doesn't convert to itself"
 
 
+def faults_like(folder, given, like, runs):
+    """What is wrong with the answers under a catalogue, and with the output."""
+    status, line = runs[0].answer
+    if {run.answer for run in runs} != {(0, line)}:
+        yield f"{ {run.answer for run in runs} }"
+        return
+    if like == GROWN and convert(folder, given, output(GROWN), "again", SAME).status != 0:
+        yield "the output doesn't convert back"
+    elif digest(folder / ("again" if like == GROWN else output(SAME))) != digest(folder / "output"):
+        yield "the own form doesn't come of it"
+
+
+def row(folder, name, count, copied, runs, own, wrong):
+    """Prints a row of the table."""
+    size, peak = (folder / "input").stat().st_size, max(run.memory for run in runs)
+    blocks = int(runs[0].line.split()[1]) if runs[0].status == 0 else 0
+    done, by_own = (statistics.median(run.seconds for run in those) for those in (runs, own))
+    print(f"{name:10} {count:9,} {blocks:9,} {size:12,} {copied:7.3f} {done:9.3f} {done / copied:6.2f}"
+          f" {peak:10,} {1024 * peak / max(1, blocks):9,.0f} {done / by_own:8.2f}  {'; '.join(wrong) or 'right'}",
+          flush=True)
+    return None if wrong else done
+
+
 def attempt(folder, given, name, count):
-    """The seconds of `convert` on a file, none where it is wrong, after a line that tells of it."""
+    """The seconds of `convert` on a file, none where something is wrong, after the lines that tell of it."""
     make(folder, given, name, count)
     copied, runs = measure(folder, given)
-    wrong = list(faults(folder, given, name, runs))
-    size, peak = (folder / "input").stat().st_size, max(run.memory for run in runs)
-    blocks = 0 if wrong else int(runs[0].line.split()[1])
-    done = statistics.median(run.seconds for run in runs)
-    print(f"{name:10} {count:9,} {blocks:9,} {size:12,} {copied:7.3f} {done:9.3f} {done / copied:6.2f}"
-          f" {peak:10,} {1024 * peak / max(1, blocks):9,.0f}  {'; '.join(wrong) or 'right'}", flush=True)
-    return None if wrong else done
+    own = runs.pop(None)
+    done = row(folder, name, count, copied, own, own, list(faults(folder, given, name, own)))
+    others = [row(folder, f"  {like}", count, copied, those, own, list(faults_like(folder, given, like, those)))
+              for like, those in runs.items()]
+    return None if None in others else done
 
 
 def counts(given, name):
@@ -102,7 +155,7 @@ def bench(folder, given):
     print(f"load {os.getloadavg()[0]:.1f}; seconds are the median of {given.rounds}, memory is the most;"
           f" convert's seconds have {alone:.3f} in which the program starts")
     print(f"{'file':10} {'of':>9} {'blocks':>9} {'bytes':>12} {'cp s':>7} {'convert s':>9} {'ratio':>6}"
-          f" {'peak KiB':>10} {'a block':>9}")
+          f" {'peak KiB':>10} {'a block':>9} {'own form':>8}")
     right = True
     for name in given.only:
         if name == "repeated" and not given.sample:
@@ -127,6 +180,7 @@ def main():
     words.add_argument("--small", type=int, help="its small blocks, 1 to 4000000; 391 a mebibyte if left out")
     words.add_argument("--rounds", type=int, default=5, help="how often both are run")
     words.add_argument("--sample", type=pathlib.Path, help="a file that Blender saved, uncompressed")
+    words.add_argument("--like", action="store_true", help="also under catalogues of other files")
     words.add_argument("--folder", help="where the temporary folder is made")
     given = words.parse_args()
     if not 10 <= given.blocks <= 1_000_000 or not 1_000 <= given.slots <= 4_000_000 or given.rounds < 1:

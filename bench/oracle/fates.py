@@ -20,7 +20,7 @@ Member = collections.namedtuple("Member", "name pointer count size kind length h
 def structs(catalogue, width):
     """The members of each struct, by the name of the struct."""
     names, types, lengths, entries = catalogue
-    forms = [sdna.elements(name) for name in names]
+    forms = {field: sdna.elements(names[field]) for _, members in entries for _, field in members}
     held = {types[type_] for type_, _ in entries}
 
     def member(kind, field):
