@@ -38,13 +38,13 @@ abbrev fate_by : Bool → Bool → Content → Content → Bool → Bool → Fat
 fate_by p q a b name long counts = cond (p && q) counts (cond (p || q) fates.Fresh (fate_by_content a b name long counts))
 
 -- a member that meets none is fresh
-fresh-none : (c : Catalogue) (v : Width) (s : ℕ) (d : Catalogue) (w : Width) (t k : ℕ) → member_of_key c s (name_of d t k).key ≡ None
+pub fresh-none : (c : Catalogue) (v : Width) (s : ℕ) (d : Catalogue) (w : Width) (t k : ℕ) → member_of_key c s (name_of d t k).key ≡ None
     → fate_of c v s d w t k ≡ fates.Fresh
 unfolding fate_of
 fresh-none c v s d w t k none = rw none refl
 
 -- and so is one that meets a member without bytes
-fresh-empty : (c : Catalogue) (v : Width) (s : ℕ) (d : Catalogue) (w : Width) (t k j : ℕ) → member_of_key c s (name_of d t k).key ≡ Some j
+pub fresh-empty : (c : Catalogue) (v : Width) (s : ℕ) (d : Catalogue) (w : Width) (t k j : ℕ) → member_of_key c s (name_of d t k).key ≡ Some j
     → (member_size c v s j == 0) ≡ true → fate_of c v s d w t k ≡ fates.Fresh
 unfolding fate_of
 fresh-empty c v s d w t k j found empty = rw (found, empty) refl
@@ -58,6 +58,15 @@ StaySame alike (kinds.Whole a) (kinds.Whole b) = a ≡ b
 StaySame alike (kinds.Bits a) (kinds.Bits b) = alike ≡ true
 StaySame alike kinds.Opaque kinds.Opaque = alike ≡ true
 StaySame alike _ _ = ⊥
+
+-- and then they don't clash
+calm : (named long : Bool) (a b : Kind) → StaySame (named && long) a b → kinds_clash named a b ≡ false
+calm named long (kinds.Pointer a s) (kinds.Pointer b t) same = refl
+calm named long (kinds.Whole a) (kinds.Whole b) same = refl
+calm true long (kinds.Bits a) (kinds.Bits b) same = refl
+calm false long (kinds.Bits a) (kinds.Bits b) same = absurd (cc)
+calm named long kinds.Opaque kinds.Opaque same = refl
+calm named long _ _ same = absurd same
 
 -- the test of `clashes` on the leaf that is met
 abbrev clash_with : NamedLeaf → Option NamedLeaf → Bool
@@ -107,16 +116,16 @@ module _ {P : Type 0} (null : P) (names : Naming P) (order : Order) where
         ap (λ v. cond (nat_lt e (kept_count x y)) v (zero_of null y)) (stays alike (zero_of null y) x.kind y.kind (leaf_bytes x bytes e) same)
 
     -- elements that stay, by the counts
-    by_counts : (carried : ℕ → Value P) (clash : Bool)
+    by_counts : (carried : ℕ → Value P) (clash : Bool) → clash ≡ false
         → ((e : ℕ) → carried e ≡ cond (nat_lt e (kept_count x y)) (leaf_value names order bytes x e) (zero_of null y))
         → LeafAgrees (fate_by_count x.count y.count) null x y (leaf_value names order bytes x) carried clash
-    by_counts carried clash same = by (nat_lt y.count x.count) (nat_lt x.count y.count) refl refl
+    by_counts carried clash none same = by (nat_lt y.count x.count) (nat_lt x.count y.count) refl refl
       where
         by : (a b : Bool) → nat_lt y.count x.count ≡ a → nat_lt x.count y.count ≡ b
             → LeafAgrees (cond a fates.Cut (cond b fates.Extended fates.Kept)) null x y (leaf_value names order bytes x) carried clash
-        by true b less more = (ltb-true y.count x.count less, same)
-        by false true less more = (ltb-true x.count y.count more, same)
-        by false false less more = (omega (arith, ltb-false y.count x.count less, ltb-false x.count y.count more), same)
+        by true b less more = (none, ltb-true y.count x.count less, same)
+        by false true less more = (none, ltb-true x.count y.count more, same)
+        by false false less more = (none, omega (arith, ltb-false y.count x.count less, ltb-false x.count y.count more), same)
 
 -- ---- a member with one leaf
 
@@ -154,26 +163,28 @@ module _ {P : Type 0} (null : P) (names : Naming P) (order : Order) (bytes : Lis
   counts_agree : (x y : NamedLeaf) → StaySame (same_type x y && x.size == y.size) x.kind y.kind
       → Agrees (fate_by_count x.count y.count) x y (Some x)
   counts_agree x y same =
-      by_counts null names order bytes x y (value_from null names order bytes (Some x) y) (clash_with y (Some x)) (all_stay null names order bytes x y same)
+      by_counts null names order bytes x y (value_from null names order bytes (Some x) y) (clash_with y (Some x))
+      (calm (same_type x y) (x.size == y.size) x.kind y.kind same) (all_stay null names order bytes x y same)
 
-  fresh_agrees : (x y : NamedLeaf) → ((v : Value P) → converted_value (same_type x y && x.size == y.size) (zero_of null y) x.kind y.kind v ≡ zero_of null y)
+  fresh_agrees : (x y : NamedLeaf) → clash_with y (Some x) ≡ false
+      → ((v : Value P) → converted_value (same_type x y && x.size == y.size) (zero_of null y) x.kind y.kind v ≡ zero_of null y)
       → Agrees fates.Fresh x y (Some x)
-  fresh_agrees x y none = all_zero null names order bytes x y none
+  fresh_agrees x y calm none = (calm, all_zero null names order bytes x y none)
 
   to_value : (b : Content) (m m' : ℕ) (a : Content) → Agrees fates.Fresh (from true a m) (to false b m') (Some (from true a m))
-  to_value (IsBasic (IsWhole signed ls)) m m' a = fresh_agrees (from true a m) (to false (IsBasic (IsWhole signed ls)) m') (λ v. refl)
-  to_value (IsBasic (IsFloat k)) m m' a = fresh_agrees (from true a m) (to false (IsBasic (IsFloat k)) m') (λ v. refl)
-  to_value (IsBasic IsVoid) m m' a = fresh_agrees (from true a m) (to false (IsBasic IsVoid) m') (λ v. refl)
-  to_value (IsStruct s) m m' a = fresh_agrees (from true a m) (to false (IsStruct s) m') (λ v. refl)
-  to_value IsOpaque m m' a = fresh_agrees (from true a m) (to false IsOpaque m') (λ v. refl)
+  to_value (IsBasic (IsWhole signed ls)) m m' a = fresh_agrees (from true a m) (to false (IsBasic (IsWhole signed ls)) m') refl (λ v. refl)
+  to_value (IsBasic (IsFloat k)) m m' a = fresh_agrees (from true a m) (to false (IsBasic (IsFloat k)) m') refl (λ v. refl)
+  to_value (IsBasic IsVoid) m m' a = fresh_agrees (from true a m) (to false (IsBasic IsVoid) m') refl (λ v. refl)
+  to_value (IsStruct s) m m' a = fresh_agrees (from true a m) (to false (IsStruct s) m') refl (λ v. refl)
+  to_value IsOpaque m m' a = fresh_agrees (from true a m) (to false IsOpaque m') refl (λ v. refl)
 
   to_pointer : (a : Content) (m m' : ℕ) (b : Content)
       → Agrees fates.Fresh (from false a m) (to true b m') (own_if (from false a m) (struct_of_content a))
-  to_pointer (IsBasic (IsWhole signed ls)) m m' b = fresh_agrees (from false (IsBasic (IsWhole signed ls)) m) (to true b m') (λ v. refl)
-  to_pointer (IsBasic (IsFloat k)) m m' b = fresh_agrees (from false (IsBasic (IsFloat k)) m) (to true b m') (λ v. refl)
-  to_pointer (IsBasic IsVoid) m m' b = fresh_agrees (from false (IsBasic IsVoid) m) (to true b m') (λ v. refl)
-  to_pointer (IsStruct s) m m' b = λ e. refl
-  to_pointer IsOpaque m m' b = fresh_agrees (from false IsOpaque m) (to true b m') (λ v. refl)
+  to_pointer (IsBasic (IsWhole signed ls)) m m' b = fresh_agrees (from false (IsBasic (IsWhole signed ls)) m) (to true b m') refl (λ v. refl)
+  to_pointer (IsBasic (IsFloat k)) m m' b = fresh_agrees (from false (IsBasic (IsFloat k)) m) (to true b m') refl (λ v. refl)
+  to_pointer (IsBasic IsVoid) m m' b = fresh_agrees (from false (IsBasic IsVoid) m) (to true b m') refl (λ v. refl)
+  to_pointer (IsStruct s) m m' b = (refl, λ e. refl)
+  to_pointer IsOpaque m m' b = fresh_agrees (from false IsOpaque m) (to true b m') refl (λ v. refl)
 
   cast_agrees : (a b : Bool) (ls ls' : List ℕ) (m m' : ℕ)
       → Agrees fates.Cast (from false (IsBasic (IsWhole a ls)) m) (to false (IsBasic (IsWhole b ls')) m') (Some (from false (IsBasic (IsWhole a ls)) m))
@@ -181,7 +192,7 @@ module _ {P : Type 0} (null : P) (names : Naming P) (order : Order) (bytes : Lis
   cast_agrees a b ls ls' m m' =
       let x = from false (IsBasic (IsWhole a ls)) m in
       let y = to false (IsBasic (IsWhole b ls')) m' in
-      (tt, all_become null names order bytes x y (cast_to y.kind) (λ e. refl))
+      (refl, tt, all_become null names order bytes x y (cast_to y.kind) (λ e. refl))
 
   wholes : (a b : Bool) (ls ls' : List ℕ) (m m' : ℕ) (long : Bool) → (m == m') ≡ long
       → Agrees (cond (same_sign a b && long) counts fates.Cast) (from false (IsBasic (IsWhole a ls)) m) (to false (IsBasic (IsWhole b ls')) m') (Some (from false (IsBasic (IsWhole a ls)) m))
@@ -205,9 +216,9 @@ module _ {P : Type 0} (null : P) (names : Naming P) (order : Order) (bytes : Lis
       → Agrees (cond (named && long) counts fates.Fresh) (from false IsOpaque m) (to false IsOpaque m') (Some (from false IsOpaque m))
   opaques m m' true true is same = counts_agree (from false IsOpaque m) (to false IsOpaque m') (λ i. is i && same i)
   opaques m m' true false is same =
-      fresh_agrees (from false IsOpaque m) (to false IsOpaque m') (λ v. ap (λ b. cond b v (zero_of null (to false IsOpaque m'))) (λ i. is i && same i))
+      fresh_agrees (from false IsOpaque m) (to false IsOpaque m') refl (λ v. ap (λ b. cond b v (zero_of null (to false IsOpaque m'))) (λ i. is i && same i))
   opaques m m' false long is same =
-      fresh_agrees (from false IsOpaque m) (to false IsOpaque m') (λ v. ap (λ b. cond b v (zero_of null (to false IsOpaque m'))) (λ i. is i && same i))
+      fresh_agrees (from false IsOpaque m) (to false IsOpaque m') refl (λ v. ap (λ b. cond b v (zero_of null (to false IsOpaque m'))) (λ i. is i && same i))
 
   values : (a b : Content) (m m' : ℕ) → a ≢ IsBasic IsVoid → b ≢ IsBasic IsVoid → struct_of_content b ≡ None
       → ((k l : ℕ) → a ≡ IsBasic (IsFloat k) → b ≡ IsBasic (IsFloat l) → bytes_eq name name' ≡ true → m ≡ m')
@@ -218,19 +229,19 @@ module _ {P : Type 0} (null : P) (names : Naming P) (order : Order) (bytes : Lis
   values (IsBasic (IsWhole x ls)) (IsBasic (IsWhole y ls')) m m' some some' own long = wholes x y ls ls' m m' (m == m') refl
   values (IsBasic (IsWhole x ls)) (IsBasic (IsFloat l)) m m' some some' own long = refl
   values (IsBasic (IsWhole x ls)) IsOpaque m m' some some' own long =
-      fresh_agrees (from false (IsBasic (IsWhole x ls)) m) (to false IsOpaque m') (λ v. refl)
+      fresh_agrees (from false (IsBasic (IsWhole x ls)) m) (to false IsOpaque m') refl (λ v. refl)
   values (IsBasic (IsFloat k)) (IsBasic (IsWhole y ls')) m m' some some' own long = refl
   values (IsBasic (IsFloat k)) (IsBasic (IsFloat l)) m m' some some' own long =
       floats k l m m' (bytes_eq name name') refl (long k l refl refl)
   values (IsBasic (IsFloat k)) IsOpaque m m' some some' own long =
-      fresh_agrees (from false (IsBasic (IsFloat k)) m) (to false IsOpaque m') (λ v. refl)
-  values (IsStruct s) (IsBasic (IsWhole y ls')) m m' some some' own long = λ e. refl
-  values (IsStruct s) (IsBasic (IsFloat l)) m m' some some' own long = λ e. refl
-  values (IsStruct s) IsOpaque m m' some some' own long = λ e. refl
+      fresh_agrees (from false (IsBasic (IsFloat k)) m) (to false IsOpaque m') refl (λ v. refl)
+  values (IsStruct s) (IsBasic (IsWhole y ls')) m m' some some' own long = (refl, λ e. refl)
+  values (IsStruct s) (IsBasic (IsFloat l)) m m' some some' own long = (refl, λ e. refl)
+  values (IsStruct s) IsOpaque m m' some some' own long = (refl, λ e. refl)
   values IsOpaque (IsBasic (IsWhole y ls')) m m' some some' own long =
-      fresh_agrees (from false IsOpaque m) (to false (IsBasic (IsWhole y ls')) m') (λ v. refl)
+      fresh_agrees (from false IsOpaque m) (to false (IsBasic (IsWhole y ls')) m') refl (λ v. refl)
   values IsOpaque (IsBasic (IsFloat l)) m m' some some' own long =
-      fresh_agrees (from false IsOpaque m) (to false (IsBasic (IsFloat l)) m') (λ v. refl)
+      fresh_agrees (from false IsOpaque m) (to false (IsBasic (IsFloat l)) m') refl (λ v. refl)
   values IsOpaque IsOpaque m m' some some' own long = opaques m m' (bytes_eq name name') (m == m') refl refl
 
   -- two members with a leaf each, neither without bytes
@@ -367,7 +378,7 @@ module _ {P : Type 0} (null : P) (names : Naming P) (order : Order) (bytes : Lis
           leaf_by fates.Fresh (own_leaf c v s j) (own_leaf d w t k) None (fresh-empty c v s d w t k j found empty)
           (met-some c v s (name_of d t k).key (own_leaf d w t k) source_laid own_has j found
           ∙ ap (λ ys. source_leaf ys (own_leaf d w t k)) (empty-leaves c v s j empty))
-          (λ e. refl)
+          (refl, λ e. refl)
       by_size j found false full =
           leaf_by (pair_fate c s j d t k) (own_leaf c v s j) (own_leaf d w t k) (own_if (own_leaf c v s j) (inner_struct c s j))
           (sym (met_fate c v s d w t k j found full full'))
@@ -382,7 +393,7 @@ module _ {P : Type 0} (null : P) (names : Naming P) (order : Order) (bytes : Lis
           (carried_value null names order (named_leaves c v s) bytes (own_leaf d w t k)) (clashes (named_leaves c v s) (own_leaf d w t k))
       by None none =
           leaf_by fates.Fresh (own_leaf c v s 0) (own_leaf d w t k) None (fresh-none c v s d w t k none)
-          (met-none c v s (name_of d t k).key (own_leaf d w t k) source_laid own_has none) (λ e. refl)
+          (met-none c v s (name_of d t k).key (own_leaf d w t k) source_laid own_has none) (refl, λ e. refl)
       by (Some j) found = by_size j found (member_size c v s j == 0) refl
 
   -- ---- the law of a member that is a struct by value
@@ -404,27 +415,31 @@ module _ {P : Type 0} (null : P) (names : Naming P) (order : Order) (bytes : Lis
       (leaf_bytes_within (member_offset c v s j + e * element_size c v s j) x.offset (i * x.size) x.size)
 
   -- by the counts of the elements
-  inner_by_counts : (n n' e : ℕ) (y : NamedLeaf) (inside carried : ℕ → Value P)
+  inner_by_counts : (n n' e : ℕ) (y : NamedLeaf) (inside carried : ℕ → Value P) (clash_inside clash : Bool)
+      → clash ≡ (nat_lt e n && clash_inside)
       → ((i : ℕ) → carried i ≡ cond (nat_lt e n) (inside i) (zero_of null y))
-      → InnerAgrees (fate_by_count n n') null n n' e y inside carried
-  inner_by_counts n n' e y inside carried same = by (nat_lt n' n) (nat_lt n n') refl refl
+      → InnerAgrees (fate_by_count n n') null n n' e y inside carried clash_inside clash
+  inner_by_counts n n' e y inside carried clash_inside clash there same = by (nat_lt n' n) (nat_lt n n') refl refl
     where
       by : (a b : Bool) → nat_lt n' n ≡ a → nat_lt n n' ≡ b
-          → InnerAgrees (cond a fates.Cut (cond b fates.Extended fates.Kept)) null n n' e y inside carried
-      by true b less more = (ltb-true n' n less, same)
-      by false true less more = (ltb-true n n' more, same)
-      by false false less more = (omega (arith, ltb-false n' n less, ltb-false n n' more), same)
+          → InnerAgrees (cond a fates.Cut (cond b fates.Extended fates.Kept)) null n n' e y inside carried clash_inside clash
+      by true b less more = (there, ltb-true n' n less, same)
+      by false true less more = (there, ltb-true n n' more, same)
+      by false false less more = (there, omega (arith, ltb-false n' n less, ltb-false n n' more), same)
 
   -- what is said of a leaf inside an element
-  inner_by : (fate : Fate) (n n' e : ℕ) (y : NamedLeaf) (inside : ℕ → Value P) (found : Option NamedLeaf)
+  inner_by : (fate : Fate) (n n' e : ℕ) (y : NamedLeaf) (inside : ℕ → Value P) (clash_inside : Bool) (found : Option NamedLeaf)
       → fate_of c v s d w t k ≡ fate → source_leaf (named_leaves c v s) (leaf_of_element d w t k e y) ≡ found
       → InnerAgrees fate null n n' e y inside (value_from null names order bytes found (leaf_of_element d w t k e y))
+      clash_inside (clash_with (leaf_of_element d w t k e y) found)
       → InnerAgrees (fate_of c v s d w t k) null n n' e y inside
       (carried_value null names order (named_leaves c v s) bytes (leaf_of_element d w t k e y))
+      clash_inside (clashes (named_leaves c v s) (leaf_of_element d w t k e y))
   unfolding carried_value
-  inner_by fate n n' e y inside found is met agrees =
-      subst (λ o. InnerAgrees (fate_of c v s d w t k) null n n' e y inside (value_from null names order bytes o (leaf_of_element d w t k e y))) (sym met)
-      (subst (λ g. InnerAgrees g null n n' e y inside (value_from null names order bytes found (leaf_of_element d w t k e y))) (sym is) agrees)
+  inner_by fate n n' e y inside clash_inside found is met agrees =
+      let z = leaf_of_element d w t k e y in
+      subst (λ o. InnerAgrees (fate_of c v s d w t k) null n n' e y inside (value_from null names order bytes o z) clash_inside (clash_with z o)) (sym met)
+      (subst (λ g. InnerAgrees g null n n' e y inside (value_from null names order bytes found z) clash_inside (clash_with z found)) (sym is) agrees)
 
   -- a struct by value meets none where the other member is no struct by value
   fate-other : (p : Bool) (a : Content) (f : ℕ) (named long : Bool) (counts : Fate) → cond p None (struct_of_content a) ≡ None
@@ -456,12 +471,14 @@ module _ {P : Type 0} (null : P) (names : Naming P) (order : Order) (bytes : Lis
       by false IsOpaque is = absurd (cc)
 
   -- the fate of such a member, by the struct that the other one is
-  inner_fate : (j f : ℕ) (o : Option ℕ) → inner_struct d t k ≡ Some f → inner_struct c s j ≡ o
-      → pair_fate c s j d t k
-      ≡ elim o [
-        | None ↦ fates.Fresh
-        | Some u ↦ cond (bytes_eq (struct_name c u) (struct_name d f)) (fate_by_count (name_of c s j).count (name_of d t k).count) fates.Fresh
-      ]
+  abbrev pub fate_by_inner : ℕ → ℕ → Option ℕ → Fate
+  fate_by_inner j f None = fates.Fresh
+  fate_by_inner j f (Some u) =
+      cond (bytes_eq (struct_name c u) (struct_name d f)) (fate_by_count (name_of c s j).count (name_of d t k).count) fates.Fresh
+
+  -- that is its fate
+  pub inner_fate : (j f : ℕ) (o : Option ℕ) → inner_struct d t k ≡ Some f → inner_struct c s j ≡ o
+      → pair_fate c s j d t k ≡ fate_by_inner j f o
   unfolding inner_struct
   inner_fate j f o is other = by o other
     where
@@ -486,12 +503,7 @@ module _ {P : Type 0} (null : P) (names : Naming P) (order : Order) (bytes : Lis
       so : pair_fate c s j d t k ≡ fate_by (name_of c s j).pointer false (content_of c m) (IsStruct f) named long counts
       so = λ i. fate_by (name_of c s j).pointer (inside.by_value i) (content_of c m) (holds f is i) named long counts
 
-      by : (o : Option ℕ) → inner_struct c s j ≡ o
-          → pair_fate c s j d t k
-          ≡ elim o [
-            | None ↦ fates.Fresh
-            | Some u ↦ cond (bytes_eq (struct_name c u) (struct_name d f)) counts fates.Fresh
-          ]
+      by : (o : Option ℕ) → inner_struct c s j ≡ o → pair_fate c s j d t k ≡ fate_by_inner j f o
       by None none = so ∙ fate-other (name_of c s j).pointer (content_of c m) f named long counts none
       by (Some u) some =
           let within = inner_struct-some c s j u some in
@@ -504,12 +516,15 @@ module _ {P : Type 0} (null : P) (names : Naming P) (order : Order) (bytes : Lis
       InnerAgrees (fate_of c v s d w t k) null (name_of c s j).count (name_of d t k).count e y
       (carried_value null names order (named_leaves c v u) (bytes_within c v s j e bytes) y)
       (carried_value null names order (named_leaves c v s) bytes (leaf_of_element d w t k e y))
+      (clashes (named_leaves c v u) y) (clashes (named_leaves c v s) (leaf_of_element d w t k e y))
 
   -- a member that is a struct by value is carried as its fate says: each leaf inside as it is carried inside
   pub fate-carried_inner : (f e : ℕ) (y : NamedLeaf) → inner_struct d t k ≡ Some f → (member_size d w t k == 0) ≡ false → IsLeafOf d f y
       → InnerAgrees (fate_of c v s d w t k) null (name_of c s (met_member c s d t k)).count (name_of d t k).count e y
       (carried_value null names order (named_leaves c v (struct_within c s (met_member c s d t k))) (bytes_within c v s (met_member c s d t k) e bytes) y)
       (carried_value null names order (named_leaves c v s) bytes (leaf_of_element d w t k e y))
+      (clashes (named_leaves c v (struct_within c s (met_member c s d t k))) y)
+      (clashes (named_leaves c v s) (leaf_of_element d w t k e y))
   unfolding carried_value
   fate-carried_inner f e y inner full' leaf = by (member_of_key c s (name_of d t k).key) refl
     where
@@ -522,14 +537,29 @@ module _ {P : Type 0} (null : P) (names : Naming P) (order : Order) (bytes : Lis
       carried_if u j true i = value_within j e y (source_leaf (named_leaves c v u) y) i
       carried_if u j false i = refl
 
+      clash_within : (j : ℕ) (found : Option NamedLeaf)
+          → clash_with (leaf_of_element d w t k e y) (option_map (leaf_of_element c v s j e) found) ≡ clash_with y found
+      clash_within j None = refl
+      clash_within j (Some x) = refl
+
+      clash_if : (u j : ℕ) (b : Bool)
+          → clash_with (leaf_of_element d w t k e y) (cond b (option_map (leaf_of_element c v s j e) (source_leaf (named_leaves c v u) y)) None)
+          ≡ (b && clashes (named_leaves c v u) y)
+      clash_if u j true = clash_within j (source_leaf (named_leaves c v u) y)
+      clash_if u j false = refl
+
       by_name : (j u : ℕ) (b : Bool)
           → InnerAgrees (cond b (fate_by_count (name_of c s j).count (name_of d t k).count) fates.Fresh) null (name_of c s j).count (name_of d t k).count e y
           (value_from null names order (bytes_within c v s j e bytes) (source_leaf (named_leaves c v u) y) y)
           (value_from null names order bytes
           (cond (b && nat_lt e (name_of c s j).count) (option_map (leaf_of_element c v s j e) (source_leaf (named_leaves c v u) y)) None) (leaf_of_element d w t k e y))
+          (clashes (named_leaves c v u) y)
+          (clash_with (leaf_of_element d w t k e y)
+          (cond (b && nat_lt e (name_of c s j).count) (option_map (leaf_of_element c v s j e) (source_leaf (named_leaves c v u) y)) None))
       by_name j u true =
-          inner_by_counts (name_of c s j).count (name_of d t k).count e y _ _ (carried_if u j (nat_lt e (name_of c s j).count))
-      by_name j u false = λ i. refl
+          inner_by_counts (name_of c s j).count (name_of d t k).count e y _ _ _ _
+          (clash_if u j (nat_lt e (name_of c s j).count)) (carried_if u j (nat_lt e (name_of c s j).count))
+      by_name j u false = (refl, λ i. refl)
 
       by_inner : (j : ℕ) → member_of_key c s (name_of d t k).key ≡ Some j → (member_size c v s j == 0) ≡ false
           → (o : Option ℕ) → inner_struct c s j ≡ o → InnerSays e y j (unwrap_or o 0)
@@ -543,27 +573,24 @@ module _ {P : Type 0} (null : P) (names : Naming P) (order : Order) (bytes : Lis
           by_struct o fate met
         where
           by_struct : (o : Option ℕ)
-              → fate_of c v s d w t k ≡ elim o [
-                | None ↦ fates.Fresh
-                | Some u ↦ cond (bytes_eq (struct_name c u) (struct_name d f)) (fate_by_count (name_of c s j).count (name_of d t k).count) fates.Fresh
-              ]
+              → fate_of c v s d w t k ≡ fate_by_inner j f o
               → source_leaf (named_leaves c v s) (leaf_of_element d w t k e y) ≡ inner_if c v s j e (struct_name d f) y o
               → InnerSays e y j (unwrap_or o 0)
-          by_struct None fate met = inner_by fates.Fresh (name_of c s j).count (name_of d t k).count e y _ None fate met (λ i. refl)
+          by_struct None fate met = inner_by fates.Fresh (name_of c s j).count (name_of d t k).count e y _ _ None fate met (refl, λ i. refl)
           by_struct (Some u) fate met =
-              inner_by _ (name_of c s j).count (name_of d t k).count e y _ _ fate met (by_name j u (bytes_eq (struct_name c u) (struct_name d f)))
+              inner_by _ (name_of c s j).count (name_of d t k).count e y _ _ _ fate met (by_name j u (bytes_eq (struct_name c u) (struct_name d f)))
 
       by_size : (j : ℕ) → member_of_key c s (name_of d t k).key ≡ Some j → (b : Bool) → (member_size c v s j == 0) ≡ b → InnerSays e y j (struct_within c s j)
       by_size j found true empty =
-          inner_by fates.Fresh (name_of c s j).count (name_of d t k).count e y _ None (fresh-empty c v s d w t k j found empty)
+          inner_by fates.Fresh (name_of c s j).count (name_of d t k).count e y _ _ None (fresh-empty c v s d w t k j found empty)
           (met-some c v s (name_of d t k).key (leaf_of_element d w t k e y) source_laid has_key j found
-          ∙ ap (λ ys. source_leaf ys (leaf_of_element d w t k e y)) (empty-leaves c v s j empty)) (λ i. refl)
+          ∙ ap (λ ys. source_leaf ys (leaf_of_element d w t k e y)) (empty-leaves c v s j empty)) (refl, λ i. refl)
       by_size j found false full = by_inner j found full (inner_struct c s j) refl
 
       by : (o : Option ℕ) → member_of_key c s (name_of d t k).key ≡ o → InnerSays e y (unwrap_or o 0) (struct_within c s (unwrap_or o 0))
       by None none =
-          inner_by fates.Fresh (name_of c s 0).count (name_of d t k).count e y _ None (fresh-none c v s d w t k none)
-          (met-none c v s (name_of d t k).key (leaf_of_element d w t k e y) source_laid has_key none) (λ i. refl)
+          inner_by fates.Fresh (name_of c s 0).count (name_of d t k).count e y _ _ None (fresh-none c v s d w t k none)
+          (met-none c v s (name_of d t k).key (leaf_of_element d w t k e y) source_laid has_key none) (refl, λ i. refl)
       by (Some j) found = by_size j found (member_size c v s j == 0) refl
 
 -- ---- each leaf is one of these

@@ -57,7 +57,8 @@ find-nowhere : {X : Type 0} (p : X → Bool) (f : ℕ → List X) (n : ℕ)
     → ((i : ℕ) → i < n → All (λ x. p x ≡ false) (f i)) → find p (flat_map f (numbers_below n)) ≡ None
 find-nowhere p f n none = find-none p (flat_map f (numbers_below n)) (each_number (λ x. p x ≡ false) f n none)
 
-find-map : {X Y : Type 0} (p : X → Bool) (q : Y → Bool) (h : Y → X) (ys : List Y)
+-- of a map the one is found that is made of what is found
+pub find-map : {X Y : Type 0} (p : X → Bool) (q : Y → Bool) (h : Y → X) (ys : List Y)
     → ((y : Y) → p (h y) ≡ q y) → find p (map h ys) ≡ option_map h (find q ys)
 find-map p q h [] same = refl
 find-map {X} {Y} p q h (y ∷ ys) same =

@@ -19,3 +19,4 @@ pub mod StraightLaws
 pub mod WayLemmas
 pub mod LeavesFound
 pub mod FatesCarried
+pub mod ClashesByFates
