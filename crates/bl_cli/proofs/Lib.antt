@@ -1,2 +1,2 @@
 mod SecondGroup
-mod OwnForm
+mod CopiedForm

@@ -1,9 +1,10 @@
 -- Drafts of all nodes of a file: the test for them, and that their heads, what addresses name from them, and under the file's
 -- catalogue and width their kinds are those of the file.
 use Rattle.std.proofs.Common.{◌≡◌, ◌<◌, inl, inr, ℕ, zero, suc, ◌+◌, true, false, List, [], ◌∷◌, ◌++◌, length, get_or, take, refl, sym, ap, subst, ◌∙◌, arith}
-use Rattle.std.specs.Prelude.{◌==◌, map, slice_get}
+use Rattle.std.specs.Prelude.{◌==◌, All, map, slice_get}
 use Rattle.std.proofs.lemmas.Bool.{cases_lt, eqb-true, eq-eqb, and_parts, both_ways}
 use Rattle.std.proofs.lemmas.List.{ext_get_or, get_or-map, get_or_past, length-map, take_more, take_all}
+use Rattle.std.proofs.lemmas.List.Elements.{All-head, All-tail}
 use Rattle.std.proofs.lemmas.Option.{slice_get-get_or}
 use Rattle.bl_format.specs.declared.file.Head.{Head}
 use Rattle.bl_format.specs.declared.file.Header.{Header}
@@ -24,17 +25,21 @@ use Rattle.bl_selection.proofs.OwnFormNames.{HaveOwnIndex, own_selection, entry_
 use Rattle.bl_selection.proofs.OwnFormStructs.{struct_number-own}
 use Rattle.bl_file.specs.declared.outline.Outline.{Outline}
 use Rattle.bl_file.specs.Opening.{kinds_in}
-use Rattle.bl_file.specs.Outlines.{IsSound, StandsFor}
+use Rattle.bl_file.specs.Outlines.{IsSound, StandsFor, ids_of}
 use Rattle.bl_file.specs.Seen.{Namings, mark_group, table_names, kinds_seen, views_seen}
-use Rattle.bl_draft.specs.Entries.{no_mark}
+use Rattle.bl_draft.specs.Entries.{groups_among, no_mark, source_group}
 use Rattle.bl_draft.specs.Kept.{HasIndex}
+use Rattle.bl_draft.specs.Numbers.{number_at, numbered_head, numbers_under}
 use Rattle.bl_draft.specs.Own.{IsSourceDraft, entry_head, entry_heads, entry_kinds, entry_node, outlined, own_names}
+use Rattle.bl_draft.specs.Prepared.{HasFileIds}
+use Rattle.bl_draft.specs.Targets.{Known, known_names}
 use Rattle.bl_draft.specs.Whole.{IsOfAll, all_entries}
+use Rattle.bl_draft.proofs.KeptLemmas.{number-index}
 use Rattle.bl_draft.proofs.ListLemmas.{get_or-by, map-numbers}
 use Rattle.bl_draft.proofs.OutlineFacts.{sound-HasIndex}
 use Rattle.bl_draft.proofs.OwnViews.{IsPlain, selection_views-own}
-use Rattle.bl_draft.proofs.SourceDrafts.{IsDraftOf-source}
-use Rattle.bl_draft.proofs.SourceNames.{length-marks, mark_at}
+use Rattle.bl_draft.proofs.SourceDrafts.{HasNamesake, IsDraftOf, IsDraftOf-source}
+use Rattle.bl_draft.proofs.SourceNames.{length-marks, mark_at, names-known}
 
 -- ---- the test
 
@@ -123,6 +128,17 @@ of_all-own o b d source catalogue all = λ i. record {
   overrides = source.no_overrides i;
 }
 
+-- so is one under the file's header and catalogue
+own-is_own : (o : Outline) (d : Draft) → IsSourceDraft o d → IsOfAll (length o.nodes) d
+    → record d { header = o.header; catalogue = o.layout.catalogue } ≡ own_selection (outlined o [])
+own-is_own o d source all = λ i. record {
+  header = o.header;
+  catalogue = o.layout.catalogue;
+  entries = all.entries i;
+  images = all.images i;
+  overrides = source.no_overrides i;
+}
+
 -- what addresses name has nothing of the header
 names-header : (f : File) (h : Header) (d : Draft) (e : ℕ) → own_names f d e ≡ own_names f (record d { header = h }) e
 unfolding entry_names entry_is_id
@@ -205,13 +221,82 @@ group_told f k lt =
     ap mark_group (slice_get-get_or (marks f) k no_mark (omega (arith, lt, length-marks f)))
     ∙ ap (λ (m : Mark). m.group) (mark_at f k no_mark lt)
 
--- what addresses name from its entries is what they name by the table of the outline
-pub names-by_table : (o : Outline) (d : Draft) (table : List Mark) → IsSound o → IsSourceDraft o d
-    → d.catalogue ≡ o.layout.catalogue → d.header.width ≡ o.header.width → IsOfAll (length o.nodes) d → table ≡ o.table
-    → (e : ℕ) → e < length d.entries → table_names table e ≡ own_names (outlined o []) d e
-names-by_table o d table sound source catalogue width all same e lt =
+-- ---- the file's IDs
+
+-- the numbers of structs under their own catalogue are theirs
+heads-own : (c : Catalogue) (nodes : List Head) → CanBeRead c → All (HasIndex c) nodes
+    → map (numbered_head (numbers_under c c)) nodes ≡ nodes
+heads-own c [] read has = refl
+heads-own c (x ∷ xs) read has =
+    let own : HasIndex c x = All-head (HasIndex c) x xs has in
+    let number : number_at (numbers_under c c) x.index ≡ x.index = number-index c c x.index own ∙ index-own c x read own in
+    let later = heads-own c xs read (All-tail (HasIndex c) x xs has) in
+    λ i. record x { index = number i } ∷ later i
+
+-- under the file's own catalogue the same nodes are IDs
+pub own-HasFileIds : (o : Outline) (d : Draft) → IsSound o → d.catalogue ≡ o.layout.catalogue → HasFileIds o d
+own-HasFileIds o d sound own =
+    ap (λ (c : Catalogue). ids_of c (map (numbered_head (numbers_under c o.layout.catalogue)) o.nodes)) own
+    ∙ ap (ids_of o.layout.catalogue) (heads-own o.layout.catalogue o.nodes sound.has_layout.can_be_read (sound-HasIndex o sound))
+    ∙ sym sound.ids
+
+-- what is known of a draft of all nodes with the file's IDs
+abbrev known : Outline → Draft → Known
+known o d =
+    let marked = marks (outlined o []) in
+    record {
+      marks = marked;
+      images = get_or d.images 0 [];
+      sources = map (source_group marked) d.entries;
+      groups = groups_among o.nodes;
+      ids = o.ids;
+    }
+
+known-names : (o : Outline) (d : Draft) → IsSound o → IsDraftOf o.layout.catalogue o.nodes d → IsOfAll (length o.nodes) d → HasFileIds o d
+    → (e : ℕ) → e < length d.entries → known_names (known o d) e ≡ own_names (outlined o []) d e
+known-names o d sound draft all ids =
+    names-known (outlined o []) d o.nodes (known o d) draft (record {
+      heads_are = nodes-known o d o.nodes all refl;
+      index = sound-HasIndex o sound;
+      marks = refl;
+      images = refl;
+      sources = refl;
+      groups = refl;
+      ids = sym ids;
+    })
+
+-- a draft under its file's header and catalogue
+abbrev under_own : Outline → Draft → Draft
+under_own o d = record d { header = o.header; catalogue = o.layout.catalogue }
+
+own-namesake : (o : Outline) → IsSound o → (x : Entry) → HasNamesake o.layout.catalogue o.layout.catalogue o.nodes x
+own-namesake o sound (entries.Source i n) some none = some (sym (sound-HaveOwnIndex o [] sound n) ∙ none)
+own-namesake o sound (entries.Made m) some none = some refl
+own-namesake o sound (entries.Raw code bytes) some none = some refl
+
+under_own-IsDraftOf : (o : Outline) (d : Draft) → IsSound o → IsDraftOf o.layout.catalogue o.nodes d
+    → IsDraftOf o.layout.catalogue o.nodes (under_own o d)
+under_own-IsDraftOf o d sound draft = record {
+  entries = draft.entries;
+  kept = λ k z lt. own-namesake o sound (get_or d.entries k z);
+  few = draft.few;
+  one_row = draft.one_row;
+  images_long = draft.images_long;
+  images_few = draft.images_few;
+}
+
+-- what addresses name from the entries of a draft of all nodes with the file's IDs is what they name by the file's table
+pub names-by_table : (o : Outline) (d : Draft) (table : List Mark) → IsSound o → IsSourceDraft o d → IsOfAll (length o.nodes) d
+    → HasFileIds o d → table ≡ o.table → (e : ℕ) → e < length d.entries → table_names table e ≡ own_names (outlined o []) d e
+names-by_table o d table sound source all ids same e lt =
     let f = outlined o [] in
+    let own = under_own o d in
+    let all_own : IsOfAll (length o.nodes) own = record { entries = all.entries; images = all.images } in
+    let draft = IsDraftOf-source o d source in
     let below : e < length f.nodes = omega (arith, lt, length-nodes o d all) in
     ap (λ (ms : List Mark). table_names ms e) (same ∙ sound.table)
     ∙ ap (target_of (marks f)) (group_told f e below)
-    ∙ own_names-known o [] d sound source catalogue all e below
+    ∙ own_names-all f (sound-HaveOwnIndex o [] sound) e below
+    ∙ ap (λ (x : Draft). own_names f x e) (sym (own-is_own o d source all))
+    ∙ sym (known-names o own sound (under_own-IsDraftOf o d sound draft) all_own (own-HasFileIds o own sound refl) e lt)
+    ∙ known-names o d sound draft all ids e lt

@@ -14,4 +14,5 @@ pub mod EntryNames
 pub mod KindsAgree
 pub mod CarriedViews
 pub mod StructsPlanned
+pub mod ClashesTold
 pub mod SpeakersMade

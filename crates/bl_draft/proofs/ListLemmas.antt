@@ -1,9 +1,9 @@
 -- Lists by the numbers below n.
-use Rattle.std.proofs.Common.{◌≡◌, ◌<◌, inl, inr, ℕ, zero, suc, ◌+◌, Bool, true, false, cond, List, [], ◌∷◌, ◌++◌, length, get_or, take, Option, Some, None, ◌≤◌, refl, sym, ap, ◌∙◌, arith, eqb-true}
-use Rattle.std.specs.Prelude.{◌==◌, map, filter, count_by, nat_lt}
+use Rattle.std.proofs.Common.{◌≡◌, ◌<◌, inl, inr, ℕ, zero, suc, ◌+◌, Bool, true, false, cond, List, [], ◌∷◌, ◌++◌, length, get_or, take, Option, Some, None, refl, sym, ap, ◌∙◌, arith}
+use Rattle.std.specs.Prelude.{map, filter, count_by}
 use Rattle.std.specs.Option.{option_or}
-use Rattle.std.proofs.lemmas.Bool.{cases_lt, ltb-true}
-use Rattle.std.proofs.lemmas.List.{take_all, take_more, get_or-map, map_more, map_push, get_or_push, get_or_append_left}
+use Rattle.std.proofs.lemmas.Bool.{cases_lt}
+use Rattle.std.proofs.lemmas.List.{take_more, get_or-map, map_more, map_push, get_or_push, get_or_append_left}
 use Rattle.std.proofs.lemmas.List.Elements.{filter-append}
 use Rattle.std.proofs.lemmas.List.Sums.{length-filter}
 use Rattle.bl_format.specs.Words.{numbers_below, last_from, last_place}
@@ -78,15 +78,8 @@ last_place-push p xs x =
 -- ---- lists that are the same
 
 -- with one element more the beginnings are the same
-pub same-more : {X : Type 0} (xs ys : List X) (k : ℕ) (d y : X) → k < length xs → true ≡ nat_lt k (length ys) → y ≡ get_or ys k y
-    → get_or xs k d ≡ y → take k xs ≡ take k ys → take (k + 1) xs ≡ take (k + 1) ys
-same-more xs ys k d y lt below there same so_far =
+pub same-more : {X : Type 0} (xs ys : List X) (k : ℕ) (d e : X) → k < length xs → k < length ys → get_or xs k d ≡ get_or ys k e
+    → take k xs ≡ take k ys → take (k + 1) xs ≡ take (k + 1) ys
+same-more xs ys k d e lt below same so_far =
     take_more xs k d lt ∙ ap (λ zs. zs ++ get_or xs k d ∷ []) so_far
-    ∙ ap (λ z. take k ys ++ z ∷ []) (same ∙ there)
-    ∙ sym (take_more ys k y (ltb-true k (length ys) (sym below)))
-
--- at the end all is the same
-pub same-all : {X : Type 0} (xs ys : List X) (k : ℕ) → length xs ≤ k → (length xs == length ys) ≡ true → take k xs ≡ take k ys → xs ≡ ys
-same-all xs ys k all long so_far =
-    let many : length xs ≡ length ys = eqb-true (length xs) (length ys) long in
-    sym (take_all k xs all) ∙ so_far ∙ take_all k ys (omega (arith, all, many))
+    ∙ ap (λ z. take k ys ++ z ∷ []) same ∙ sym (take_more ys k e below)

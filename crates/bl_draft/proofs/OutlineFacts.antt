@@ -71,6 +71,12 @@ heads-IsNodeIn o d heads sound source is =
     let Is = IsNodeIn o.header o.layout.catalogue o.size in
     subst (All Is) (sym is) (heads-have Is o.nodes d.entries (IsDraftOf-source o d source).entries sound.nodes)
 
+-- so they are in a file of that many bytes
+pub heads-in_file : (o : Outline) (d : Draft) (heads : List Head) (size : ℕ) → IsSound o → IsSourceDraft o d → size ≡ o.size
+    → heads ≡ entry_heads o.nodes d.entries → All (IsNodeIn o.header o.layout.catalogue size) heads
+heads-in_file o d heads size sound source same is =
+    subst (λ (n : ℕ). All (IsNodeIn o.header o.layout.catalogue n) heads) (sym same) (heads-IsNodeIn o d heads sound source is)
+
 -- the heads of a draft's entries are raw or of a struct of its file's catalogue
 pub heads-HasIndex : (o : Outline) (d : Draft) (heads : List Head) → IsSound o → IsSourceDraft o d
     → heads ≡ entry_heads o.nodes d.entries → All (HasIndex o.layout.catalogue) heads

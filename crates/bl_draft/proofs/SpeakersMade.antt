@@ -7,8 +7,9 @@ use Rattle.std.proofs.lemmas.List.{get_or-map, get_or-set_same, get_or-set_other
 use Rattle.std.proofs.lemmas.List.Elements.{All-nil, All-more}
 use Rattle.std.proofs.lemmas.Option.{slice_get-get_or}
 use Rattle.bl_format.specs.declared.file.Head.{Head}
+use Rattle.bl_format.specs.declared.catalogue.Catalogue.{Catalogue}
 use Rattle.bl_format.specs.declared.layout.Leaf.{Leaf}
-use Rattle.bl_format.specs.Layout.{HasLayout, NamedLeaf, leaf_of, leaves_of, named_leaves, no_leaf, struct_length}
+use Rattle.bl_format.specs.Layout.{HasLayout, NamedLeaf, leaf_of, leaves_of, named_leaves, no_leaf, struct_length, struct_name}
 use Rattle.bl_selection.specs.declared.draft.Draft.{Draft}
 use Rattle.bl_selection.specs.Fate.{source_leaf}
 use Rattle.bl_plan.specs.SourcePlaces.{source_place}
@@ -26,8 +27,24 @@ use Rattle.bl_draft.specs.Structs.{AreStructsOf, number_under, source_form, targ
 use Rattle.bl_draft.proofs.KeptLemmas.{number-index}
 use Rattle.bl_draft.proofs.SpeakerFacts.{met_speakers-heard}
 use Rattle.bl_draft.proofs.OutlineFacts.{heads-inside, heads-namesakes}
+use Rattle.bl_draft.proofs.StructsPlanned.{namesake}
 
 -- ---- one struct
+
+-- the number of a struct under a draft's catalogue, as it is looked up
+pub number-known : (o : Outline) (d : Draft) (structs : TargetStructs) (numbers : List ℕ) (s t : ℕ) → AreStructsOf o d structs
+    → numbers ≡ structs.numbers.items → s < length o.layout.catalogue.structs → t ≡ number_at numbers s → t ≡ number_under o d s
+number-known o d structs numbers s t are same lt is =
+    is ∙ ap (λ ns. number_at ns s) (same ∙ are.numbers) ∙ number-index d.catalogue o.layout.catalogue s (inr lt)
+
+-- where it isn't 0, the struct of that number is there and has the same name
+pub namesake-known : (o : Outline) (d : Draft) (structs : TargetStructs) (s t : ℕ) → AreStructsOf o d structs → t ≡ number_under o d s → t ≢ 0
+    → (t < length structs.layout.now.catalogue.structs) × (struct_name o.layout.catalogue s ≡ struct_name structs.layout.now.catalogue t)
+namesake-known o d structs s t are number some =
+    let there = namesake d.catalogue o.layout.catalogue s (λ none. some (number ∙ none)) in (
+      omega (arith, number, there.within, ap (λ (k : Catalogue). length k.structs) are.catalogue),
+      sym there.name_is ∙ ap (struct_name d.catalogue) (sym number) ∙ ap (λ (k : Catalogue). struct_name k t) (sym are.catalogue),
+    )
 
 -- a leaf by the place that is found says what it says by the leaf that it meets
 speaker_met : (basics : List (Option ℕ)) (xs : List NamedLeaf) (y : NamedLeaf)

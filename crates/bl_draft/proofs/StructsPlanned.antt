@@ -8,7 +8,8 @@ use Rattle.std.proofs.lemmas.List.Elements.{All-nil, All-head, All-tail, All-mor
 use Rattle.bl_format.specs.declared.file.Head.{Head}
 use Rattle.bl_format.specs.declared.catalogue.Catalogue.{Catalogue}
 use Rattle.bl_format.specs.Words.{find_map}
-use Rattle.bl_format.specs.Layout.{struct_name}
+use Rattle.bl_format.specs.Layout.{named_leaves, struct_name}
+use Rattle.bl_format.specs.Nodes.{File}
 use Rattle.bl_layout.proofs.NestingLemmas.{find_map-drop}
 use Rattle.bl_selection.specs.declared.draft.Draft.{Draft}
 use Rattle.bl_selection.specs.declared.draft.Entry.{Entry}
@@ -36,33 +37,50 @@ namesake c from s some =
 
 -- ---- the first clash
 
-module _ (o : Outline) (d : Draft) where
-  -- the first float that a node's struct would carry to another number
-  abbrev pub struct_clash : ℕ → Option (ℕ × ℕ)
-  struct_clash s = first_clash (source_form o s).leaves (target_form o d s).leaves
+-- the first float that the elements of a file's struct would carry to another number under a draft's catalogue
+abbrev pub clash_under : File → Draft → ℕ → Option (ℕ × ℕ)
+clash_under f d s =
+    first_clash (named_leaves f.catalogue f.header.width s)
+    (named_leaves d.catalogue d.header.width (index_under d.catalogue f.catalogue s))
 
-  -- the same of a node
-  abbrev pub head_clash : Head → Option (ℕ × ℕ)
-  head_clash x = cond (x.index == 0) None (struct_clash x.index)
+-- the same of a node, and none of a raw one
+abbrev pub node_clash : File → Draft → Head → Option (ℕ × ℕ)
+node_clash f d x = cond (x.index == 0) None (clash_under f d x.index)
 
-  entry_clash : (x : Entry) → IsOfSource x → clash_of (outlined o [] ∷ []) d x ≡ head_clash (entry_head o.nodes x)
-  entry_clash (entries.Source i n) is = ap (λ (k : ℕ). clash_of (outlined o [] ∷ []) d (entries.Source k n)) is
+module _ (f : File) (d : Draft) where
+  entry_clash : (x : Entry) → IsOfSource x → clash_of (f ∷ []) d x ≡ node_clash f d (entry_head f.nodes x)
+  entry_clash (entries.Source i n) is = ap (λ (k : ℕ). clash_of (f ∷ []) d (entries.Source k n)) is
   entry_clash (entries.Made m) is = absurd is
   entry_clash (entries.Raw code bytes) is = absurd is
 
   clash-entries : (xs : List Entry) → All IsOfSource xs
-      → find_map (clash_of (outlined o [] ∷ []) d) xs ≡ find_map head_clash (entry_heads o.nodes xs)
+      → find_map (clash_of (f ∷ []) d) xs ≡ find_map (node_clash f d) (entry_heads f.nodes xs)
   clash-entries [] all = refl
   clash-entries (x ∷ xs) all =
       let first = entry_clash x (All-head IsOfSource x xs all) in
       let later = clash-entries xs (All-tail IsOfSource x xs all) in
       λ i. option_or (first i) (later i)
 
+  -- the first clash of a draft of a file's nodes is that of the heads of its entries
+  pub selection_clash-nodes : All IsOfSource d.entries
+      → selection_clash (f ∷ []) d ≡ find_map (node_clash f d) (entry_heads f.nodes d.entries)
+  unfolding selection_clash
+  selection_clash-nodes sources = clash-entries d.entries sources
+
+module _ (o : Outline) (d : Draft) where
+  -- of an opened file's struct
+  abbrev pub struct_clash : ℕ → Option (ℕ × ℕ)
+  struct_clash s = clash_under (outlined o []) d s
+
+  -- of an opened file's node
+  abbrev pub head_clash : Head → Option (ℕ × ℕ)
+  head_clash x = node_clash (outlined o []) d x
+
   -- a draft's first clash is that of the heads of its entries
   pub selection_clash-heads : (heads : List Head) → IsSourceDraft o d → heads ≡ entry_heads o.nodes d.entries
       → selection_clash (outlined o [] ∷ []) d ≡ find_map head_clash heads
-  unfolding selection_clash
-  selection_clash-heads heads source is = clash-entries d.entries source.sources ∙ ap (find_map head_clash) (sym is)
+  selection_clash-heads heads source is =
+      selection_clash-nodes (outlined o []) d source.sources ∙ ap (find_map head_clash) (sym is)
 
   -- ---- plans made so far
 

@@ -3,6 +3,7 @@ pub mod Kept
 pub mod Own
 pub mod Sources
 pub mod Structs
+pub mod Prepared
 pub mod Speakers
 pub mod Faults
 pub mod Targets

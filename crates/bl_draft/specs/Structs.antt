@@ -3,12 +3,14 @@
 use Rattle.std.specs.Prelude.{◌≡◌, ◌≢◌, ◌<◌, ℕ, All, List, [], ◌∷◌, length, map, get_or, Some, None, ⊤}
 use Rattle.bl_format.specs.declared.file.Head.{Head}
 use Rattle.bl_format.specs.Layout.{struct_numbers}
+use Rattle.bl_format.specs.Nodes.{File}
 use Rattle.bl_selection.specs.declared.draft.Draft.{Draft}
 use Rattle.bl_selection.specs.Selection.{index_under, selection_clash}
 use Rattle.bl_selection.specs.Carried.{StructForm, struct_form}
 use Rattle.bl_plan.specs.declared.plans.PlanFault.{PlanFault}
 use Rattle.bl_plan.specs.declared.plans.PlanFault.TheVariants.{FloatCast, NoMemory}
 use Rattle.bl_plan.specs.declared.steps.Plan.{Plan}
+use Rattle.bl_plan.specs.Agreements.{HasFloatCast}
 use Rattle.bl_plan.specs.Plans.{Carries, no_plan}
 use Rattle.bl_file.specs.declared.outline.Outline.{Outline}
 use Rattle.bl_draft.specs.declared.structs.TargetStructs.{TargetStructs}
@@ -49,3 +51,9 @@ HasNoClash o d = selection_clash (outlined o [] ∷ []) d ≡ None
 abbrev pub IsClashOf : Outline → Draft → PlanFault → Type 0
 IsClashOf o d NoMemory = ⊤
 IsClashOf o d (FloatCast t member) = selection_clash (outlined o [] ∷ []) d ≡ Some (t, member)
+
+-- a node of a file isn't raw, and of its struct under a draft's catalogue a member is printed as float-cast, or one inside
+abbrev pub NodeHasFloatCast : File → Draft → Head → Type 0
+NodeHasFloatCast f d x =
+    (x.index ≢ 0)
+    × HasFloatCast f.catalogue f.header.width d.catalogue d.header.width (index_under d.catalogue f.catalogue x.index)

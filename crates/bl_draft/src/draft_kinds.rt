@@ -12,6 +12,7 @@ ghost use Rattle.bl_draft.specs.Sources.{AreOpen, IsSource, SourcesStay};
 use crate::fault::{DraftFault, plan_fault, shelf_fault};
 use crate::heads::heads_of;
 use crate::kinds::kinds_of_entries;
+use crate::prepared::Prepared;
 use crate::structs::structs_of;
 use crate::targets::targets_of;
 use bl_file::{Opened, Outline, Payload, RawKind};
@@ -74,13 +75,17 @@ fn kinds_of_source<S: Shelf, P: Payload>(
         Ok(structs) => structs,
         Err(fault) => return Err(plan_fault(fault)),
     };
-    let targets = match targets_of(alloc, outline, draft, &structs, &heads) {
+    let prepared = Prepared {
+        draft,
+        outline,
+        structs: &structs,
+        heads: &heads,
+    };
+    let targets = match targets_of(alloc, &prepared) {
         Ok(targets) => targets,
         Err(_) => return Err(DraftFault::NoMemory),
     };
-    match kinds_of_entries(
-        alloc, outline, draft, &structs, &heads, &targets, payload, shelf,
-    ) {
+    match kinds_of_entries(alloc, &prepared, &targets, payload, shelf) {
         Ok(kinds) => Ok(kinds),
         Err(fault) => Err(shelf_fault(fault)),
     }

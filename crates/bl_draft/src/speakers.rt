@@ -11,36 +11,32 @@ ghost use Rattle.bl_draft.specs.Speakers.{SpeaksAs, carried_speakers, is_pointer
 ghost use Rattle.bl_draft.specs.Structs.{AreStructsOf, number_under};
 
 use crate::numbers::number_at;
-use crate::structs::TargetStructs;
-use bl_file::{Head, Outline, Speaker, basic_lengths, said_by};
+use crate::prepared::Prepared;
+use bl_file::{Head, Speaker, basic_lengths, said_by};
 use bl_format::{Kind, Leaf};
 use bl_num::{Items, NoMemory};
 use bl_plan::source_places;
-use bl_selection::Draft;
 use std::alloc::{AllocError, Global};
 
 /// By the number of a struct of the source, the leaves whose pointers say anything under the draft's
 /// catalogue, where a node of the draft has the struct.
-pub fn carried_speakers(
-    alloc: Global,
-    outline: &Outline,
-    draft: &Draft,
-    structs: &TargetStructs,
-    heads: &[Head],
-) -> Result<Vec<Items<Speaker>>, NoMemory>
-    requires sound { IsSound outline.now }
-    requires draft { IsSourceDraft outline.now draft.now }
-    requires structs { AreStructsOf outline.now draft.now structs.now }
-    requires heads { heads.now ≡ entry_heads outline.now.nodes draft.now.entries }
-    ensures heard { IfOk result (λ speakers. AreHeard outline.now.layout.catalogue speakers.items) }
-    ensures says { IfOk result (λ speakers. All (SpeaksAs outline.now draft.now speakers.items) heads.now) }
+pub fn carried_speakers(alloc: Global, prepared: &Prepared) -> Result<Vec<Items<Speaker>>, NoMemory>
+    requires sound { IsSound prepared.now.outline.now }
+    requires draft { IsSourceDraft prepared.now.outline.now prepared.now.draft.now }
+    requires structs { AreStructsOf prepared.now.outline.now prepared.now.draft.now prepared.now.structs.now }
+    requires heads { prepared.now.heads.now
+        ≡ entry_heads prepared.now.outline.now.nodes prepared.now.draft.now.entries }
+    ensures heard { IfOk result (λ speakers.
+        AreHeard prepared.now.outline.now.layout.catalogue speakers.items) }
+    ensures says { IfOk result (λ speakers. All
+        (SpeaksAs prepared.now.outline.now prepared.now.draft.now speakers.items) prepared.now.heads.now) }
 {
-    let count = outline.layout.struct_count();
-    let used = used_structs(alloc, count as usize, heads)?;
-    let basics = basic_lengths(alloc, structs.layout.catalogue())?;
+    let count = prepared.outline.layout.struct_count();
+    let used = used_structs(alloc, count as usize, prepared.heads)?;
+    let basics = basic_lengths(alloc, prepared.structs.layout.catalogue())?;
     let mut speakers = Vec::with_capacity(alloc, count as usize)?;
     for s in 0..count {
-        let own = struct_speakers(alloc, outline, draft, structs, &basics, s, used[s as usize])?;
+        let own = struct_speakers(alloc, prepared, &basics, s, used[s as usize])?;
         speakers.push(Items::from_vec(own))?;
     }
     Ok(speakers)
@@ -65,31 +61,29 @@ fn used_structs(alloc: Global, count: usize, heads: &[Head]) -> Result<Vec<bool>
 // The leaves of one struct, if it is used, and has a namesake.
 fn struct_speakers(
     alloc: Global,
-    outline: &Outline,
-    draft: &Draft,
-    structs: &TargetStructs,
+    prepared: &Prepared,
     basics: &[Option<u8>],
     s: u32,
     is_used: bool,
 ) -> Result<Vec<Speaker>, NoMemory>
-    requires sound { IsSound outline.now }
-    requires structs { AreStructsOf outline.now draft.now structs.now }
-    requires basics { basics.now ≡ basic_lengths draft.now.catalogue }
-    requires s { s < length outline.now.layout.catalogue.structs }
+    requires sound { IsSound prepared.now.outline.now }
+    requires structs { AreStructsOf prepared.now.outline.now prepared.now.draft.now prepared.now.structs.now }
+    requires basics { basics.now ≡ basic_lengths prepared.now.draft.now.catalogue }
+    requires s { s < length prepared.now.outline.now.layout.catalogue.structs }
     ensures speakers { IfOk result (λ speakers.
-        is_used ≡ true → number_under outline.now draft.now s ≢ 0
-        → speakers.items ≡ carried_speakers outline.now draft.now s) }
+        is_used ≡ true → number_under prepared.now.outline.now prepared.now.draft.now s ≢ 0
+        → speakers.items ≡ carried_speakers prepared.now.outline.now prepared.now.draft.now s) }
     ensures heard { IfOk result (λ speakers.
-        All (IsHeard (struct_length outline.now.layout.catalogue s)) speakers.items) }
+        All (IsHeard (struct_length prepared.now.outline.now.layout.catalogue s)) speakers.items) }
 {
-    let t = number_at(&structs.numbers, s);
+    let from = &prepared.outline.layout;
+    let to = prepared.structs.layout;
+    let t = number_at(&prepared.structs.numbers, s);
     if !is_used || t == 0 {
         return Ok(Vec::new(alloc));
     }
-    let found = source_places(alloc, &outline.layout, s, structs.layout, t)?;
-    let sources = outline.layout.leaves(s);
-    let targets = structs.layout.leaves(t);
-    Ok(speakers_by(alloc, basics, sources, targets, &found)?)
+    let found = source_places(alloc, from, s, to, t)?;
+    Ok(speakers_by(alloc, basics, from.leaves(s), to.leaves(t), &found)?)
 }
 
 // What some leaves say, heard at those of the source that they meet.

@@ -1,17 +1,17 @@
 // Which entries addresses name from the entries of a draft.
-ghost use Rattle.std.specs.Prelude.{◌≡◌, ◌<◌, ℕ, [], false, IfOk, get_or, length, option_and_then};
+ghost use Rattle.std.specs.Prelude.{◌≡◌, ◌<◌, ◌↔◌, ℕ, [], false, IfOk, IsTrue, get_or, length, option_and_then};
 ghost use Rattle.bl_selection.specs.Selection.{image_numbered};
 ghost use Rattle.bl_file.specs.Outlines.{IsSound};
 ghost use Rattle.bl_draft.specs.Own.{IsSourceDraft, entry_heads, outlined, own_names};
+ghost use Rattle.bl_draft.specs.Prepared.{HasFileIds};
 ghost use Rattle.bl_draft.specs.Structs.{AreStructsOf};
 ghost use Rattle.bl_draft.specs.Targets.{known_names, known_in_scope};
 
 use crate::entries::{numbered_heads, source_groups};
-use crate::structs::TargetStructs;
+use crate::prepared::Prepared;
 use bl_addresses::{Table, groups_of};
-use bl_file::{Head, Outline, Targets, ids_of};
+use bl_file::{Targets, ids_of};
 use bl_num::NoMemory;
-use bl_selection::Draft;
 use std::alloc::Global;
 use std::marker::Model;
 
@@ -119,21 +119,22 @@ fn is_id(ids: &[bool], entry: u32) -> bool
 }
 
 /// The targets of a draft's entries.
-pub fn targets_of<'a>(
-    alloc: Global,
-    outline: &'a Outline,
-    draft: &'a Draft,
-    structs: &TargetStructs,
-    heads: &[Head],
-) -> Result<EntryTargets<'a>, NoMemory>
-    requires sound { IsSound outline.now }
-    requires draft { IsSourceDraft outline.now draft.now }
-    requires structs { AreStructsOf outline.now draft.now structs.now }
-    requires heads { heads.now ≡ entry_heads outline.now.nodes draft.now.entries }
-    ensures count { IfOk result (λ targets. length targets.groups ≡ length draft.now.entries) }
-    ensures names { IfOk result (λ targets. (e : ℕ) → e < length draft.now.entries
-        → known_names targets e ≡ own_names (outlined outline.now []) draft.now e) }
+pub fn targets_of<'a>(alloc: Global, prepared: &Prepared<'a>) -> Result<EntryTargets<'a>, NoMemory>
+    requires sound { IsSound prepared.now.outline.now }
+    requires draft { IsSourceDraft prepared.now.outline.now prepared.now.draft.now }
+    requires structs { AreStructsOf prepared.now.outline.now prepared.now.draft.now prepared.now.structs.now }
+    requires heads { prepared.now.heads.now
+        ≡ entry_heads prepared.now.outline.now.nodes prepared.now.draft.now.entries }
+    ensures count { IfOk result (λ targets. length targets.groups ≡ length prepared.now.draft.now.entries) }
+    ensures names { IfOk result (λ targets. (e : ℕ) → e < length prepared.now.draft.now.entries
+        → known_names targets e ≡ own_names (outlined prepared.now.outline.now []) prepared.now.draft.now e) }
 {
+    let Prepared {
+        draft,
+        outline,
+        structs,
+        heads,
+    } = *prepared;
     let entries = draft.entries.as_slice();
     let numbered = numbered_heads(alloc, &structs.numbers, heads)?;
     Ok(EntryTargets {
@@ -143,4 +144,19 @@ pub fn targets_of<'a>(
         groups: groups_of(alloc, heads)?,
         ids: ids_of(alloc, structs.layout, &numbered)?,
     })
+}
+
+/// Whether the nodes of a file that are IDs under a draft's catalogue are those that are IDs in the
+/// file. So addresses name from a draft of all nodes what they name in the file.
+pub fn has_file_ids(alloc: Global, prepared: &Prepared) -> Result<bool, NoMemory>
+    requires sound { IsSound prepared.now.outline.now }
+    requires structs { AreStructsOf prepared.now.outline.now prepared.now.draft.now prepared.now.structs.now }
+    ensures { IfOk result (λ same.
+        IsTrue same ↔ HasFileIds prepared.now.outline.now prepared.now.draft.now) }
+{
+    let outline = prepared.outline;
+    let structs = prepared.structs;
+    let numbered = numbered_heads(alloc, &structs.numbers, outline.nodes.as_slice())?;
+    let ids = ids_of(alloc, structs.layout, &numbered)?;
+    Ok(ids.as_slice() == outline.ids.as_slice())
 }

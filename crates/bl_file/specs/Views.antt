@@ -37,6 +37,10 @@ abbrev pub raw_target : List Head → Target → Target
 raw_target nodes None = None
 raw_target nodes (Some n) = if is_raw nodes n then Some n else None
 
+-- of raw nodes two namings name the same
+abbrev pub SaysOfRaw : List Head → Naming Target → Naming Target → Type 0
+SaysOfRaw nodes names others = (address : ℕ) → raw_target nodes (names address) ≡ raw_target nodes (others address)
+
 -- the views of raw nodes
 abbrev pub raw_only : List Head → List View → List View
 raw_only nodes views = filter (λ (v : View). is_raw nodes v.node) views

@@ -7,7 +7,7 @@ ghost use Rattle.bl_file.specs.Frames.{CountsReads};
 ghost use Rattle.bl_file.specs.Heard.{views_heard};
 ghost use Rattle.bl_file.specs.Opening.{kinds_in};
 ghost use Rattle.bl_file.specs.Outlines.{IsNodeIn, ArePairsLong, file_with, marks_of};
-ghost use Rattle.bl_file.specs.Seen.{kinds_seen, views_seen};
+ghost use Rattle.bl_file.specs.Seen.{kinds_seen, table_names};
 ghost use Rattle.bl_file.specs.Views.{AreInside, IsSight, viewed_or_bytes, kind_by, kinds_by};
 
 use crate::Payload;
@@ -25,43 +25,6 @@ use std::alloc::Global;
 
 // The bytes of the longest type, which an element of any struct fits in.
 const LONGEST_TYPE: usize = 65_535;
-
-/// The kind of each node as raw data, by what addresses name from each; a struct node counts as
-/// bytes.
-pub fn raw_kinds<S: Shelf, P: Payload, T: Targets>(
-    alloc: Global,
-    payload: &mut P,
-    shelf: &mut S,
-    header: &Header,
-    layout: &Layout,
-    nodes: &[Head],
-    targets: &T,
-) -> Result<Vec<RawKind>, ShelfFault>
-    requires width { layout.now.width ≡ header.now.width }
-    requires nodes { All (IsNodeIn header.now layout.now.catalogue (P.file_size payload.old)) nodes.now }
-    requires small { P.file_size payload.old < 2 ^ 63 }
-    requires few { length nodes.now < 2 ^ 32 }
-    requires count { T.count targets.now ≡ length nodes.now }
-    requires held { IsOpen S.Shelf P.Payload shelf.old payload.old }
-    ensures len { IfOk result (λ kinds. length kinds.items ≡ length nodes.now) }
-    ensures kinds { IfOk result (λ kinds.
-        Tells S.Shelf P.Payload shelf.old payload.old (λ b. kinds.items
-        ≡ kinds_seen nodes.now
-        (views_seen (T.names targets.now) header.now layout.now.catalogue nodes.now b))) }
-    ensures pairs { IfOk result (λ kinds. ArePairsLong nodes.now kinds.items) }
-    ensures stays { Stays S.Shelf P.Payload shelf.old shelf.new payload.old payload.new }
-    ensures cause { CountsReads S.Shelf shelf.old shelf.new result }
-{
-    let basics = basic_lengths(alloc, layout.catalogue())?;
-    let speakers = struct_speakers(alloc, layout, &basics)?;
-    let sight = Sight {
-        header,
-        layout,
-        nodes,
-        speakers: &speakers,
-    };
-    kinds_heard(alloc, payload, shelf, &sight, targets)
-}
 
 /// The kind of each node as raw data, by what addresses name from each, where it is given which
 /// leaves of each struct say anything; a struct node counts as bytes. One element of a node is in
@@ -103,7 +66,36 @@ pub fn kinds_heard<S: Shelf, P: Payload, T: Targets>(
     }
 }
 
-/// The kind of each node as raw data, by what addresses name in their file; a struct node counts as
+/// The same by what addresses name in the nodes' own file, by the table of these. They are looked up
+/// in groups that have a raw node alone.
+pub fn kinds_in_groups<S: Shelf, P: Payload>(
+    alloc: Global,
+    payload: &mut P,
+    shelf: &mut S,
+    sight: &Sight,
+    table: &Table,
+) -> Result<Vec<RawKind>, ShelfFault>
+    requires sight { IsSight sight.now (P.file_size payload.old) }
+    requires small { P.file_size payload.old < 2 ^ 63 }
+    requires few { length sight.now.nodes.now ≤ most_blocks }
+    requires table { table.now
+        ≡ marks_of sight.now.header.now sight.now.layout.now.catalogue sight.now.nodes.now }
+    requires held { IsOpen S.Shelf P.Payload shelf.old payload.old }
+    ensures len { IfOk result (λ kinds. length kinds.items ≡ length sight.now.nodes.now) }
+    ensures kinds { IfOk result (λ kinds.
+        Tells S.Shelf P.Payload shelf.old payload.old (λ b. kinds.items
+        ≡ kinds_seen sight.now.nodes.now
+        (views_heard sight.now.speakers.now (table_names table.now) sight.now.header.now
+        sight.now.layout.now.catalogue sight.now.nodes.now b))) }
+    ensures pairs { IfOk result (λ kinds. ArePairsLong sight.now.nodes.now kinds.items) }
+    ensures stays { Stays S.Shelf P.Payload shelf.old shelf.new payload.old payload.new }
+    ensures cause { CountsReads S.Shelf shelf.old shelf.new result }
+{
+    let targets = GroupTargets::new(alloc, table, sight.nodes)?;
+    kinds_heard(alloc, payload, shelf, sight, &targets)
+}
+
+/// The kind of each node as raw data, by what pointers say in their file; a struct node counts as
 /// bytes.
 pub fn kinds_of<S: Shelf, P: Payload>(
     alloc: Global,
@@ -128,8 +120,15 @@ pub fn kinds_of<S: Shelf, P: Payload>(
     ensures stays { Stays S.Shelf P.Payload shelf.old shelf.new payload.old payload.new }
     ensures cause { CountsReads S.Shelf shelf.old shelf.new result }
 {
-    let targets = GroupTargets::new(alloc, table, nodes)?;
-    raw_kinds(alloc, payload, shelf, header, layout, nodes, &targets)
+    let basics = basic_lengths(alloc, layout.catalogue())?;
+    let speakers = struct_speakers(alloc, layout, &basics)?;
+    let sight = Sight {
+        header,
+        layout,
+        nodes,
+        speakers: &speakers,
+    };
+    kinds_in_groups(alloc, payload, shelf, &sight, table)
 }
 
 // The kinds of nodes by the views of the raw ones.

@@ -22,7 +22,7 @@ mod whole;
 pub use basics::basic_lengths;
 pub use bl_format::{BlockFault, Head, HeadFault, Header, LayoutFault, RawKind, SdnaFault};
 pub use fault::OpenFault;
-pub use kinds::{kinds_heard, raw_kinds};
+pub use kinds::{kinds_heard, kinds_in_groups};
 pub use nodes::ids_of;
 pub use opened::open;
 pub use outline::{Opened, Outline};

@@ -2,15 +2,11 @@
 -- of its entries: the heads of their nodes, their kinds, and what addresses name from them.
 use Rattle.std.proofs.Common.{◌≡◌, ℕ, ◌<◌, true, All, List, [], ◌∷◌, ◌++◌, length, get_or, None, sym, ap, subst, ◌∙◌, arith}
 use Rattle.std.specs.Prelude.{map, flat_map}
-use Rattle.std.specs.List.{enumerate_from}
 use Rattle.std.proofs.lemmas.List.{ext_get_or, get_or-map, length-map}
 use Rattle.std.proofs.lemmas.List.Elements.{All-weaker}
-use Rattle.std.proofs.lemmas.List.Folds.{flat_map-map}
-use Rattle.std.proofs.lemmas.List.FromFn.{length-enumerate_from}
 use Rattle.bl_format.specs.declared.file.Head.{Head}
 use Rattle.bl_format.specs.declared.raw.RawKind.{RawKind}
 use Rattle.bl_format.specs.declared.raw.RawKind.TheVariants.{Bytes}
-use Rattle.bl_format.specs.declared.raw.View.{View}
 use Rattle.bl_format.specs.Words.{numbers_below}
 use Rattle.bl_format.specs.Blocks.{header_written}
 use Rattle.bl_format.specs.Layout.{first_fault}
@@ -21,15 +17,14 @@ use Rattle.bl_selection.specs.declared.draft.Draft.{Draft}
 use Rattle.bl_selection.specs.declared.draft.Entry.{Entry}
 use Rattle.bl_selection.specs.declared.draft.Entry.TheVariants as entries
 use Rattle.bl_selection.specs.Drafts.{is_well_formed}
-use Rattle.bl_selection.specs.Selection.{no_head, entry_at, entry_names, entry_views, selection_views}
+use Rattle.bl_selection.specs.Selection.{no_head, entry_at, entry_names}
 use Rattle.bl_selection.specs.Written.{catalogue_block}
-use Rattle.bl_selection.specs.Carried.{IsSourceNode, carried_length, carried_views, carried_block, entry_block, draft_block}
+use Rattle.bl_selection.specs.Carried.{IsSourceNode, carried_length, carried_block, entry_block, draft_block}
 use Rattle.bl_selection.specs.OutputSizes.{entry_length, payload_lengths, output_length}
-use Rattle.bl_selection.proofs.CarriedForm.{entry_views-carried, written_form-carried}
+use Rattle.bl_selection.proofs.CarriedForm.{written_form-carried}
 use Rattle.bl_selection.proofs.DraftFacts.{IsSource0, IsNode0, nodes-within}
 use Rattle.bl_selection.proofs.FormLength.{length-payload_lengths, payload_length, entries-whole, length-written_form}
 use Rattle.bl_selection.proofs.NumberedTexts.{texts-same}
-use Rattle.bl_selection.proofs.OwnFormNames.{at_place}
 use Rattle.bl_file.specs.declared.outline.Outline.{Outline}
 use Rattle.bl_file.specs.Outlines.{StandsFor}
 use Rattle.bl_draft.specs.Own.{outlined, IsOfSource, entry_node, entry_head, entry_heads, own_names, entry_kinds}

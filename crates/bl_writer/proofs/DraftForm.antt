@@ -5,7 +5,6 @@ use Rattle.std.proofs.lemmas.List.{length-map}
 use Rattle.bl_format.specs.declared.file.Header.{Header}
 use Rattle.bl_format.specs.declared.file.Head.{Head}
 use Rattle.bl_format.specs.declared.catalogue.Catalogue.{Catalogue}
-use Rattle.bl_format.specs.declared.raw.RawKind.{RawKind}
 use Rattle.bl_format.specs.declared.raw.RawKind.TheVariants.{Bytes}
 use Rattle.bl_num.specs.declared.number.Width.{Width}
 use Rattle.bl_format.specs.Limits.{most_output_nodes}
@@ -13,7 +12,6 @@ use Rattle.bl_format.specs.Layout.{HasLayout, struct_numbers}
 use Rattle.bl_format.specs.Words.{numbers_below}
 use Rattle.bl_format.specs.Blocks.{header_written}
 use Rattle.bl_format.specs.Nodes.{File}
-use Rattle.bl_format.specs.Graph.{Target, Naming}
 use Rattle.bl_selection.specs.declared.draft.Draft.{Draft}
 use Rattle.bl_selection.specs.Carried.{struct_form, carried_block}
 use Rattle.bl_selection.specs.Selection.{no_head, index_under}

@@ -1,12 +1,10 @@
 -- How long an output of a draft is, and which limit it passes first: what the draft's selection says.
-use Rattle.std.proofs.Common.{◌≡◌, ℕ, ◌<◌, ◌≤◌, All, List, [], ◌∷◌, length, get_or, Option, None, Result, Ok, Err, refl, sym, ap, subst, ◌∙◌, arith}
+use Rattle.std.proofs.Common.{◌≡◌, ℕ, ◌<◌, ◌≤◌, List, [], ◌∷◌, length, get_or, Option, None, Result, Ok, Err, sym, ap, ◌∙◌, arith}
 use Rattle.std.specs.Prelude.{map}
 use Rattle.std.specs.List.{zip}
 use Rattle.std.proofs.lemmas.List.{ext_get_or, get_or-map, length-map}
 use Rattle.std.proofs.lemmas.Slice.Zip.{get_or-zip, length-zip}
-use Rattle.bl_format.specs.declared.file.Header.{Header}
 use Rattle.bl_format.specs.declared.file.Head.{Head}
-use Rattle.bl_format.specs.declared.catalogue.Catalogue.{Catalogue}
 use Rattle.bl_format.specs.declared.raw.RawKind.{RawKind}
 use Rattle.bl_format.specs.declared.raw.RawKind.TheVariants.{Bytes}
 use Rattle.bl_format.specs.Limits.{most_output_nodes}
@@ -31,7 +29,7 @@ use Rattle.bl_writer.specs.declared.fault.WriteFault.TheVariants as faults
 use Rattle.bl_writer.specs.declared.output.Output.{Output}
 use Rattle.bl_writer.specs.Faults.{HasOutputFault, KeepsLimits}
 use Rattle.bl_writer.specs.Lengths.{KeepsOutputLimits, output_fault, output_size}
-use Rattle.bl_writer.specs.Outputs.{payload_lengths, target_of}
+use Rattle.bl_writer.specs.Outputs.{payload_lengths}
 use Rattle.bl_writer.specs.Totals.{IsFormSize, carried_lengths}
 use Rattle.bl_writer.proofs.CarriedOutput.{known_length, payload_lengths-known}
 use Rattle.bl_writer.proofs.DraftForm.{IsOutputOf}

@@ -1,8 +1,7 @@
 -- Elements of structs, carried over one behind another and piece by piece.
 use Rattle.std.proofs.Common.{◌≡◌, ℕ, zero, suc, ◌+◌, ◌-◌, ◌*◌, ◌≤◌, ◌<◌, false, List, [], ◌++◌, length, take, drop, refl, sym, ap, ◌∙◌, append_assoc, append-nil, arith, mul-le-mul_right}
 use Rattle.std.specs.Prelude.{min, flat_map}
-use Rattle.std.proofs.lemmas.Grind.{flat_map-append}
-use Rattle.std.proofs.lemmas.List.{take_at, take_all, take-take, drop-take, drop-drop, length-append, length-take-le, length-drop}
+use Rattle.std.proofs.lemmas.List.{take_at, take_all, take-take, drop-take, drop-drop, length-append}
 use Rattle.bl_num.specs.declared.number.Order.{Order}
 use Rattle.bl_num.specs.declared.number.Order.TheVariants.{Little, Big}
 use Rattle.bl_format.specs.Words.{part, numbers_below}

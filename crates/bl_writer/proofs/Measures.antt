@@ -1,6 +1,6 @@
 -- The lengths of the payloads of an output, one after another, and the first limit that they pass.
-use Rattle.std.proofs.Common.{◌≡◌, ◌≤◌, ◌<◌, inl, inr, ℕ, zero, suc, ◌+◌, ◌*◌, ◌^◌, Bool, true, false, cond, List, [], ◌∷◌, ◌++◌, length, Option, Some, None, option_map, refl, sym, ap, ◌∙◌, arith}
-use Rattle.std.specs.Prelude.{map, max, nat_lt, sum}
+use Rattle.std.proofs.Common.{◌≡◌, ◌≤◌, ◌<◌, inl, inr, ℕ, zero, suc, ◌+◌, Bool, true, false, cond, List, [], ◌∷◌, length, Option, Some, None, option_map, refl, sym, ap, ◌∙◌, arith}
+use Rattle.std.specs.Prelude.{map, nat_lt, sum}
 use Rattle.std.specs.List.{find, sum_by}
 use Rattle.std.specs.Option.{option_or}
 use Rattle.std.proofs.lemmas.Bool.{cases_lt, le-ltb, lt-ltb}
@@ -9,9 +9,9 @@ use Rattle.std.proofs.lemmas.List.Folds.{find-append}
 use Rattle.std.proofs.lemmas.List.Sums.{sum-map, sum_by-append, sum_by-cons}
 use Rattle.bl_format.specs.Limits.{most_output_nodes, longest_payload, longest_output}
 use Rattle.bl_format.specs.Words.{numbers_below}
-use Rattle.bl_format.specs.Blocks.{header_size, head_size}
+use Rattle.bl_format.specs.Blocks.{head_size}
 use Rattle.bl_format.specs.Schema.{catalogue_written}
-use Rattle.bl_selection.specs.OutputSizes.{OutputFault, ManyNodes, LongPayload, LongOutput, output_length, size_fault}
+use Rattle.bl_selection.specs.OutputSizes.{OutputFault, ManyNodes, LongPayload, LongOutput, output_length}
 use Rattle.bl_writer.specs.declared.output.Output.{Output}
 use Rattle.bl_writer.specs.Outputs.{payload_length, target_of}
 use Rattle.bl_writer.specs.Lengths.{blocks_length, form_length, output_fault, output_size}

@@ -1,5 +1,5 @@
 -- The payload of a node as it is carried over, by what was read of the source.
-use Rattle.std.proofs.Common.{◌≡◌, ◌≢◌, ℕ, zero, suc, ◌+◌, ◌*◌, ◌/◌, ◌≤◌, ◌<◌, ◌^◌, Bool, true, false, cond, All, List, [], ◌∷◌, ◌++◌, length, take, drop, None, refl, sym, ap, subst, ◌∙◌, arith}
+use Rattle.std.proofs.Common.{◌≡◌, ◌≢◌, ℕ, zero, suc, ◌+◌, ◌*◌, ◌≤◌, ◌<◌, false, All, List, [], ◌∷◌, ◌++◌, length, take, drop, None, refl, sym, ap, ◌∙◌, arith}
 use Rattle.std.specs.Prelude.{◌==◌, flat_map}
 use Rattle.std.proofs.lemmas.Bool.{eqb-true, false_from_ne_true}
 use Rattle.std.proofs.lemmas.List.{take_all}
@@ -8,33 +8,29 @@ use Rattle.std.proofs.lemmas.List.Elements.{All-take, All-drop}
 use Rattle.std.proofs.lemmas.List.Folds.{flat_map-map}
 use Rattle.bl_num.specs.declared.number.Order.{Order}
 use Rattle.bl_num.specs.declared.number.Width.{Width}
-use Rattle.bl_num.specs.declared.number.Width.TheVariants.{Four, Eight}
 use Rattle.bl_num.specs.declared.number.Form.{Form}
-use Rattle.bl_num.specs.Numbers.{pointer_bytes}
 use Rattle.bl_format.specs.declared.file.Header.{Header}
-use Rattle.bl_format.specs.declared.file.Head.{Head}
 use Rattle.bl_format.specs.declared.raw.RawKind.{RawKind}
 use Rattle.bl_format.specs.declared.raw.RawKind.TheVariants as raw
 use Rattle.bl_format.specs.Words.{part, numbers_below}
-use Rattle.bl_format.specs.Layout.{first_fault, struct_length}
+use Rattle.bl_format.specs.Layout.{first_fault}
 use Rattle.bl_format.specs.Graph.{Target, Naming, contents_by, form_of, raw_length}
 use Rattle.bl_format.specs.Nodes.{pair_length}
 use Rattle.bl_format.proofs.CatalogueFits.{length-part}
 use Rattle.bl_format.proofs.MemberPasses.{first_fault-none}
 use Rattle.bl_selection.specs.Written.{contents_written}
-use Rattle.bl_selection.specs.Carried.{StructForm, carried_element, carried_elements, carried_contents}
+use Rattle.bl_selection.specs.Carried.{carried_element, carried_elements, carried_contents}
 use Rattle.bl_selection.proofs.CarriedValues.{length-carried_element}
 use Rattle.bl_selection.proofs.NumberedTexts.{texts-same}
 use Rattle.bl_ptrarrays.specs.Carried.{header_with, numbers_carried, pair_carried}
 use Rattle.bl_ptrarrays.proofs.ContentsCarried.{contents_written-form, carried-bytes, carried-numbers, carried-pair}
 use Rattle.bl_ptrarrays.proofs.NumbersCarried.{numbers-same, pair-same}
-use Rattle.bl_plan.specs.declared.steps.Plan.{Plan}
 use Rattle.bl_plan.specs.Steps.{applied}
 use Rattle.bl_file.proofs.SightLemmas.{struct_short}
 use Rattle.bl_writer.specs.declared.elements.Elements.{Elements}
 use Rattle.bl_writer.specs.declared.output.Output.{Output}
 use Rattle.bl_writer.specs.declared.nodes.Node.{Node}
-use Rattle.bl_writer.specs.Lengths.{is_read_first, turns}
+use Rattle.bl_writer.specs.Lengths.{is_read_first}
 use Rattle.bl_writer.specs.Outputs.{IsOutput, form_in, form_out, number_in, plan_of, source_of, target_of}
 use Rattle.bl_writer.specs.Payloads.{AreElementsOf, IsOutputNode, StandIn, StayWhole, elements_carried, payload_place}
 use Rattle.bl_writer.proofs.ElementPieces.{orders_same, part_within, element_within, flat_map-next}

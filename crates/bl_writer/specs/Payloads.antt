@@ -1,9 +1,7 @@
 -- What is written of a node's payload, part by part. This project's own.
 use Rattle.std.specs.Prelude.{◌≡◌, ◌≤◌, ◌<◌, ◌^◌, ℕ, ◌+◌, ◌-◌, ◌*◌, min, All, List, flat_map, length}
-use Rattle.bl_num.specs.declared.number.Order.{Order}
 use Rattle.bl_format.specs.declared.file.Header.{Header}
 use Rattle.bl_format.specs.declared.file.Head.{Head}
-use Rattle.bl_format.specs.declared.raw.RawKind.{RawKind}
 use Rattle.bl_format.specs.declared.raw.RawKind.TheVariants.{Pair}
 use Rattle.bl_format.specs.Words.{part, numbers_below}
 use Rattle.bl_format.specs.Blocks.{head_size}

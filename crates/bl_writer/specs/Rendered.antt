@@ -1,5 +1,5 @@
 -- What a render of one opened file's draft leaves, and what is known before anything is read. This project's own.
-use Rattle.std.specs.Prelude.{◌≡◌, ◌≤◌, ℕ, All, List, [], ◌∷◌, length, Result, IfOk, OnOk, option_map}
+use Rattle.std.specs.Prelude.{◌≡◌, ◌≤◌, ℕ, List, [], ◌∷◌, length, Result, IfOk, OnOk, option_map}
 use Rattle.bl_format.specs.Limits.{most_output_nodes}
 use Rattle.bl_selection.specs.declared.draft.Draft.{Draft}
 use Rattle.bl_shelf.specs.declared.shelf.Shelf.{Ghosts as ShelfGhosts}
@@ -7,13 +7,9 @@ use Rattle.bl_file.specs.declared.outline.Outline.{Outline}
 use Rattle.bl_file.specs.declared.payload.Payload.{Ghosts}
 use Rattle.bl_file.specs.Calls.{Tells}
 use Rattle.bl_file.specs.Opening.{file_in}
-use Rattle.bl_file.specs.Outlines.{IsNodeIn}
-use Rattle.bl_draft.specs.Own.{entry_heads}
-use Rattle.bl_draft.specs.Sources.{IsSource}
-use Rattle.bl_draft.specs.Structs.{AreStructsOf, HasNoClash}
-use Rattle.bl_draft.specs.Whole.{IsOfAll}
+use Rattle.bl_draft.specs.declared.prepared.Prepared.{Prepared}
+use Rattle.bl_draft.specs.Structs.{HasNoClash}
 use Rattle.bl_writer.specs.declared.fault.WriteFault.{WriteFault}
-use Rattle.bl_writer.specs.declared.prepared.Prepared.{Prepared}
 use Rattle.bl_writer.specs.declared.rendering.Totals.{Totals}
 use Rattle.bl_writer.specs.Calls.{CountsWrites, HoldsFrom, RefusesFirst, Stages}
 use Rattle.bl_writer.specs.Faults.{KeepsLimits}
@@ -21,22 +17,10 @@ use Rattle.bl_writer.specs.Outputs.{selection_form}
 use Rattle.bl_writer.specs.Rendering.{staged_as}
 use Rattle.bl_writer.specs.Totals.{AreTotals}
 
--- a draft has all nodes of a file, each as its own image, under the file's own catalogue and width
-pub record IsOwn (o : Outline) (d : Draft) : Type 0 where
-  pub all : IsOfAll (length o.nodes) d
-  pub catalogue : d.catalogue ≡ o.layout.catalogue
-  pub width : d.header.width ≡ o.header.width
-
--- a draft is one of an opened file, with few enough nodes and no float that would become another number, and its structs
--- and heads are known
-pub record IsPrepared {S P : Type 0} (g : ShelfGhosts S) (h : Ghosts P) (s : S) (p : P) (x : Prepared) : Type 0 where
-  pub source : IsSource g h s x.draft.now x.outline.now p
-  pub structs : AreStructsOf x.outline.now x.draft.now x.structs.now
+-- a prepared draft has few enough nodes, and no float that would become another number
+pub record IsChecked (x : Prepared) : Type 0 where
   pub no_clash : HasNoClash x.outline.now x.draft.now
   pub few : length x.draft.now.entries ≤ most_output_nodes
-  pub heads : x.heads.now ≡ entry_heads x.outline.now.nodes x.draft.now.entries
-  pub len : length x.heads.now ≡ length x.draft.now.entries
-  pub nodes : All (IsNodeIn x.outline.now.header x.outline.now.layout.catalogue x.outline.now.size) x.heads.now
 
 -- what a render of a draft of one opened file leaves, and what it answers
 pub record HasRendered {S P : Type 0} (g : ShelfGhosts S) (h : Ghosts P) (name : List ℕ) (d : Draft) (o : Outline) (s s' : S) (p p' : P)

@@ -3,6 +3,7 @@
 
 mod blocks;
 mod buffer;
+mod checked;
 mod elements;
 mod fault;
 mod measure;
@@ -11,7 +12,6 @@ mod nodes;
 mod output;
 mod output_staged;
 mod payloads;
-mod prepared;
 mod rendering;
 mod staging;
 

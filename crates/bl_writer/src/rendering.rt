@@ -3,19 +3,24 @@ ghost use Rattle.std.specs.Prelude.{◌≡◌, ◌≤◌, ◌<◌, All, [], ◌�
 ghost use Rattle.bl_shelf.specs.Calls.{Holds};
 ghost use Rattle.bl_file.specs.Calls.{Tells};
 ghost use Rattle.bl_file.specs.Opening.{file_in};
+ghost use Rattle.bl_draft.specs.Prepared.{HasFileIds, IsPrepared};
 ghost use Rattle.bl_draft.specs.Sources.{AreOpen, IsSource, SourcesStay};
+ghost use Rattle.bl_draft.specs.Whole.{IsOfAll};
 ghost use Rattle.bl_writer.specs.Calls.{CountsWrites, RefusesFirst, Stages};
 ghost use Rattle.bl_writer.specs.Faults.{KeepsLimits};
 ghost use Rattle.bl_writer.specs.Outputs.{selection_form};
-ghost use Rattle.bl_writer.specs.Rendered.{HasRendered, IsOwn, IsPrepared};
+ghost use Rattle.bl_writer.specs.Rendered.{HasRendered, IsChecked};
 ghost use Rattle.bl_writer.specs.Rendering.{staged_as};
 ghost use Rattle.bl_writer.specs.Totals.{AreTotals};
 
+use crate::checked::{checked_structs, layout_of};
 use crate::fault::{WriteFault, write_fault};
 use crate::output::Output;
 use crate::output_staged::render_output;
-use crate::prepared::{Prepared, checked_structs, layout_of};
-use bl_draft::{Draft, has_own_structs, heads_of, is_of_all, kinds_of_entries, targets_of};
+use bl_draft::{
+    Draft, Prepared, has_file_ids, has_own_structs, heads_of, is_of_all, kinds_of_all,
+    kinds_of_entries, targets_of,
+};
 use bl_file::{FileTargets, Opened, Outline, Payload};
 use bl_layout::Layout;
 use bl_shelf::Shelf;
@@ -39,6 +44,7 @@ fn render_entries<S: Shelf, P: Payload>(
     name: &str,
 ) -> Result<Totals, WriteFault>
     requires prepared { IsPrepared S.Shelf P.Payload shelf.old payload.old prepared.now }
+    requires checked { IsChecked prepared.now }
     requires staged { S.room shelf.old ≡ None }
     ensures { HasRendered S.Shelf P.Payload name.now prepared.now.draft.now prepared.now.outline.now
         shelf.old shelf.new payload.old payload.new result }
@@ -49,13 +55,11 @@ fn render_entries<S: Shelf, P: Payload>(
         structs,
         heads,
     } = *prepared;
-    let targets = match targets_of(alloc, outline, draft, structs, heads) {
+    let targets = match targets_of(alloc, prepared) {
         Ok(targets) => targets,
         Err(_) => return Err(WriteFault::NoMemory),
     };
-    let kinds = match kinds_of_entries(
-        alloc, outline, draft, structs, heads, &targets, payload, shelf,
-    ) {
+    let kinds = match kinds_of_entries(alloc, prepared, &targets, payload, shelf) {
         Ok(kinds) => kinds,
         Err(fault) => return Err(write_fault(fault)),
     };
@@ -70,36 +74,89 @@ fn render_entries<S: Shelf, P: Payload>(
     render_output(alloc, &output, &targets, payload, shelf, name)
 }
 
-// Stages a draft of all nodes, each as its own image, under the file's own catalogue and width: heads,
-// kinds and what addresses name are taken as the file has them.
+// Stages a draft of all nodes with the file's IDs. What addresses name is taken as the file has it, and
+// so are kinds under the file's own catalogue and width.
 fn render_all<S: Shelf, P: Payload>(
     alloc: Global,
-    draft: &Draft,
-    outline: &Outline,
+    prepared: &Prepared,
     payload: &mut P,
     shelf: &mut S,
     name: &str,
 ) -> Result<Totals, WriteFault>
-    requires source { IsSource S.Shelf P.Payload shelf.old draft.now outline.now payload.old }
-    requires own { IsOwn outline.now draft.now }
+    requires prepared { IsPrepared S.Shelf P.Payload shelf.old payload.old prepared.now }
+    requires checked { IsChecked prepared.now }
+    requires all { IsOfAll (length prepared.now.outline.now.nodes) prepared.now.draft.now }
+    requires ids { HasFileIds prepared.now.outline.now prepared.now.draft.now }
     requires staged { S.room shelf.old ≡ None }
-    ensures { HasRendered S.Shelf P.Payload name.now draft.now outline.now shelf.old shelf.new
-        payload.old payload.new result }
+    ensures { HasRendered S.Shelf P.Payload name.now prepared.now.draft.now prepared.now.outline.now
+        shelf.old shelf.new payload.old payload.new result }
 {
-    let heads = outline.nodes.as_slice();
-    let structs = checked_structs(alloc, outline, draft, &outline.layout, heads)?;
+    let Prepared {
+        draft,
+        outline,
+        structs,
+        heads,
+    } = *prepared;
     let targets = FileTargets {
         table: &outline.table,
+    };
+    if has_own_structs(outline, draft) {
+        let output = Output {
+            from: outline.header,
+            source: &outline.layout,
+            header: draft.header,
+            structs,
+            nodes: heads,
+            kinds: outline.kinds.as_slice(),
+        };
+        return render_output(alloc, &output, &targets, payload, shelf, name);
+    }
+    let kinds = match kinds_of_all(alloc, prepared, payload, shelf) {
+        Ok(kinds) => kinds,
+        Err(fault) => return Err(write_fault(fault)),
     };
     let output = Output {
         from: outline.header,
         source: &outline.layout,
         header: draft.header,
-        structs: &structs,
+        structs,
         nodes: heads,
-        kinds: outline.kinds.as_slice(),
+        kinds: &kinds,
     };
     render_output(alloc, &output, &targets, payload, shelf, name)
+}
+
+// Stages a draft of all nodes, each as its own image, whose catalogue is laid out.
+fn render_nodes<S: Shelf, P: Payload>(
+    alloc: Global,
+    draft: &Draft,
+    outline: &Outline,
+    layout: &Layout,
+    payload: &mut P,
+    shelf: &mut S,
+    name: &str,
+) -> Result<Totals, WriteFault>
+    requires source { IsSource S.Shelf P.Payload shelf.old draft.now outline.now payload.old }
+    requires catalogue { layout.now.catalogue ≡ draft.now.catalogue }
+    requires width { layout.now.width ≡ draft.now.header.width }
+    requires all { IsOfAll (length outline.now.nodes) draft.now }
+    requires staged { S.room shelf.old ≡ None }
+    ensures { HasRendered S.Shelf P.Payload name.now draft.now outline.now shelf.old shelf.new
+        payload.old payload.new result }
+{
+    let heads = outline.nodes.as_slice();
+    let structs = checked_structs(alloc, outline, draft, layout, heads)?;
+    let prepared = Prepared {
+        draft,
+        outline,
+        structs: &structs,
+        heads,
+    };
+    match has_file_ids(alloc, &prepared) {
+        Ok(true) => render_all(alloc, &prepared, payload, shelf, name),
+        Ok(false) => render_entries(alloc, &prepared, payload, shelf, name),
+        Err(_) => Err(WriteFault::NoMemory),
+    }
 }
 
 // Stages a draft, whose catalogue is laid out.
@@ -119,6 +176,9 @@ fn render_under<S: Shelf, P: Payload>(
     ensures { HasRendered S.Shelf P.Payload name.now draft.now outline.now shelf.old shelf.new
         payload.old payload.new result }
 {
+    if is_of_all(draft, outline.nodes.as_slice().len()) {
+        return render_nodes(alloc, draft, outline, layout, payload, shelf, name);
+    }
     let heads = match heads_of(alloc, outline, draft) {
         Ok(heads) => heads,
         Err(_) => return Err(WriteFault::NoMemory),
@@ -147,14 +207,11 @@ fn render_source<S: Shelf, P: Payload>(
     ensures { HasRendered S.Shelf P.Payload name.now draft.now outline.now shelf.old shelf.new
         payload.old payload.new result }
 {
-    if !has_own_structs(outline, draft) {
-        let layout = layout_of(alloc, draft)?;
-        return render_under(alloc, draft, outline, &layout, payload, shelf, name);
+    if has_own_structs(outline, draft) {
+        return render_under(alloc, draft, outline, &outline.layout, payload, shelf, name);
     }
-    if is_of_all(draft, outline.nodes.as_slice().len()) {
-        return render_all(alloc, draft, outline, payload, shelf, name);
-    }
-    render_under(alloc, draft, outline, &outline.layout, payload, shelf, name)
+    let layout = layout_of(alloc, draft)?;
+    render_under(alloc, draft, outline, &layout, payload, shelf, name)
 }
 
 /// Stages the written form of a draft's selection under a name. The draft has nodes of one opened

@@ -3,11 +3,12 @@ ghost use Rattle.std.specs.Prelude.{◌≡◌, IfOk, IfSome, length};
 ghost use Rattle.bl_file.specs.Held.{IsHeldAnd};
 ghost use Rattle.bl_file.specs.Outlines.{IsSound, StandsFor};
 ghost use Rattle.bl_draft.specs.Own.{IsSourceDraft};
+ghost use Rattle.bl_draft.specs.Sources.{AreOpen};
 
 use super::examples::{catalogue_in, changed};
 use bl_draft::{
-    Draft, Entry, EntryTargets, heads_of, is_of_all, kinds_of_entries, structs_of, targets_of,
-    whole_draft,
+    Draft, DraftFault, Entry, Prepared, heads_of, is_of_all, kinds_for, kinds_of_entries,
+    structs_of, targets_of, whole_draft,
 };
 use bl_file::{Head, Opened, Outline, Payload, RawKind, Targets, WholePayload, open};
 use bl_layout::{Layout, copy_of};
@@ -168,16 +169,27 @@ const MESHES: &[u8] = b"BLENDER-v405\
     \x03\0\x02\0\x02\0\x01\0\x01\0\x02\0\
     ENDB";
 
-// The draft of all nodes of a file, under the file's own header and catalogue.
+// The draft of all nodes of a file that the catalogue of another keeps, under the other's header and
+// catalogue.
+fn draft_like<P>(alloc: Global, file: &Opened<P>, model: &Outline) -> Result<Draft, NoMemory>
+    requires file { IsSound file.now.outline }
+    requires model { IsSound model.now }
+    ensures source { IfOk result (IsSourceDraft file.now.outline) }
+    ensures catalogue { IfOk result (λ draft. model.now.layout.catalogue ≡ draft.catalogue) }
+    ensures width { IfOk result (λ draft. model.now.layout.width ≡ draft.header.width) }
+{
+    let catalogue = copy_of(alloc, model.layout.catalogue())?;
+    whole_draft(alloc, file, model.header, catalogue)
+}
+
+// The same under the file's own header and catalogue.
 fn own_draft<P>(alloc: Global, file: &Opened<P>) -> Result<Draft, NoMemory>
     requires { IsSound file.now.outline }
     ensures source { IfOk result (IsSourceDraft file.now.outline) }
     ensures catalogue { IfOk result (λ draft. file.now.outline.layout.catalogue ≡ draft.catalogue) }
     ensures width { IfOk result (λ draft. file.now.outline.layout.width ≡ draft.header.width) }
 {
-    let outline = &file.outline;
-    let catalogue = copy_of(alloc, outline.layout.catalogue())?;
-    whole_draft(alloc, file, outline.header, catalogue)
+    draft_like(alloc, file, &file.outline)
 }
 
 // Where three heads stood.
@@ -197,17 +209,19 @@ fn places<P>(alloc: Global, file: &Opened<P>) -> Option<[u64; 3]>
     places_of(&heads)
 }
 
-// What addresses name from the entries of a draft under the file's own catalogue.
-fn own_targets<'a>(
+// Whether an address names this from an entry of a draft under the file's own catalogue.
+fn is_named_in(
     alloc: Global,
-    outline: &'a Outline,
-    draft: &'a Draft,
-) -> Option<EntryTargets<'a>>
+    outline: &Outline,
+    draft: &Draft,
+    entry: u32,
+    address: u64,
+    want: Option<u32>,
+) -> Option<bool>
     requires sound { IsSound outline.now }
     requires draft { IsSourceDraft outline.now draft.now }
     requires catalogue { outline.now.layout.catalogue ≡ draft.now.catalogue }
     requires width { outline.now.layout.width ≡ draft.now.header.width }
-    ensures { IfSome result (λ targets. length targets.groups ≡ length draft.now.entries) }
 {
     let Ok(heads) = heads_of(alloc, outline, draft) else {
         return None;
@@ -215,9 +229,19 @@ fn own_targets<'a>(
     let Ok(structs) = structs_of(alloc, outline, draft, &outline.layout, &heads) else {
         return None;
     };
-    match targets_of(alloc, outline, draft, &structs, &heads) {
-        Ok(targets) => Some(targets),
-        Err(_) => None,
+    let prepared = Prepared {
+        draft,
+        outline,
+        structs: &structs,
+        heads: &heads,
+    };
+    let Ok(targets) = targets_of(alloc, &prepared) else {
+        return None;
+    };
+    if (entry as usize) < draft.entries.as_slice().len() {
+        Some(targets.target(entry, address) == want)
+    } else {
+        None
     }
 }
 
@@ -232,12 +256,7 @@ fn is_named<P>(
     requires { IsSound file.now.outline }
 {
     let draft = own_draft(alloc, file).ok()?;
-    let targets = own_targets(alloc, &file.outline, &draft)?;
-    if (entry as usize) < draft.entries.as_slice().len() {
-        Some(targets.target(entry, address) == want)
-    } else {
-        None
-    }
+    is_named_in(alloc, &file.outline, &draft, entry, address, want)
 }
 
 // Whether addresses name what they should in the file of two meshes: from the first its raw block,
@@ -276,12 +295,14 @@ fn have_kinds<S: Shelf, P: Payload>(
     let Ok(structs) = structs_of(alloc, outline, &draft, &outline.layout, &heads) else {
         return None;
     };
-    let targets = targets_of(alloc, outline, &draft, &structs, &heads).ok()?;
-    let payload = &mut file.payload;
-    let kinds = kinds_of_entries(
-        alloc, outline, &draft, &structs, &heads, &targets, payload, shelf,
-    )
-    .ok()?;
+    let prepared = Prepared {
+        draft: &draft,
+        outline,
+        structs: &structs,
+        heads: &heads,
+    };
+    let targets = targets_of(alloc, &prepared).ok()?;
+    let kinds = kinds_of_entries(alloc, &prepared, &targets, &mut file.payload, shelf).ok()?;
     Some(kinds.as_slice() == want)
 }
 
@@ -302,4 +323,94 @@ fn tells_of_its_entries(rt: HostRuntime) -> Result<(), NoMemory> {
     shelf.hold("a", MESHES)?;
     assert_eq!(rt; are_told(rt.alloc(), &mut shelf), Some(true));
     Ok(())
+}
+
+// A catalogue under which the raw block of the first mesh holds numbers of 2 bytes. Its header has
+// the other width and order, and its structs have other numbers and members.
+const OTHER: &[u8] = b"BLENDER_V300\
+    DNA1\0\0\0\x8c\0\0\0\0\0\0\0\0\0\0\0\x01\
+    SDNANAME\0\0\0\x04name[2]\0flag\0id\0*co\0\
+    TYPE\0\0\0\x08char\0short\0int\0float\0void\0One\0ID\0Mesh\0\0\0\
+    TLEN\0\x01\0\x02\0\x04\0\x04\0\0\0\x04\0\x10\0\x14\
+    STRC\0\0\0\x03\0\x05\0\x01\0\x02\0\x01\0\x07\0\x02\0\x06\0\x02\0\x01\0\x03\0\x06\0\x02\0\
+    \x02\0\x01\0\0\0\0\
+    ENDB\0\0\0\0\0\0\0\0\0\0\0\0\0\0\0\0";
+
+// Where the types of `co` and of an ID's `name` stand, and the numbers of three types.
+const CO_TYPE: usize = 157;
+
+const NAME_TYPE: usize = 169;
+
+const SHORT: u8 = 1;
+
+const FLOAT: u8 = 3;
+
+const VOID: u8 = 4;
+
+// Whether the kinds of a draft of an opened file's nodes are those of two meshes and of a raw block
+// of this kind between them, or are refused so.
+fn are_kinds<S: Shelf, P: Payload>(
+    alloc: Global,
+    draft: &Draft,
+    files: &mut [Opened<P>],
+    shelf: &mut S,
+    want: Result<RawKind, DraftFault>,
+) -> bool
+    requires { AreOpen S.Shelf P.Payload shelf.old draft.now files.old }
+{
+    match kinds_for(alloc, draft, files, shelf) {
+        Ok(kinds) => match want {
+            Ok(kind) => kinds.as_slice() == [RawKind::Bytes, kind, RawKind::Bytes].as_slice(),
+            Err(_) => false,
+        },
+        Err(fault) => want == Err(fault),
+    }
+}
+
+// The same of the file `a` under the catalogue of `b`.
+fn are_kinds_like<S: Shelf>(
+    alloc: Global,
+    shelf: &mut S,
+    want: Result<RawKind, DraftFault>,
+) -> bool {
+    let model = match open::<S, WholePayload>(alloc, shelf, "b", 0) {
+        Ok(model) => model.outline,
+        Err(_) => return false,
+    };
+    let mut files = match open::<S, WholePayload>(alloc, shelf, "a", 0) {
+        Ok(file) => [file],
+        Err(_) => return false,
+    };
+    match draft_like(alloc, &files[0], &model) {
+        Ok(draft) => are_kinds(alloc, &draft, &mut files, shelf, want),
+        Err(_) => false,
+    }
+}
+
+// The same of the file of two meshes under the other catalogue, with a type at a place.
+fn are_kinds_under(
+    alloc: Global,
+    at: usize,
+    type_: u8,
+    want: Result<RawKind, DraftFault>,
+) -> Result<bool, NoMemory> {
+    let other = changed(alloc, OTHER, at, &[type_])?;
+    let mut shelf = SteadyShelf::new(alloc);
+    shelf.hold("a", MESHES)?;
+    shelf.hold("b", &other)?;
+    Ok(are_kinds_like(alloc, &mut shelf, want))
+}
+
+#[test]
+fn tells_kinds_under_another_catalogue(rt: HostRuntime) {
+    let clash = DraftFault::FloatCast { t: 2, member: 1 };
+    for (at, type_, want) in [
+        (CO_TYPE, SHORT, Ok(RawKind::Numbers(2))),
+        // A pointer to `void` says nothing.
+        (CO_TYPE, VOID, Ok(RawKind::Bytes)),
+        // An ID is struct 2 there, and its name the second member.
+        (NAME_TYPE, FLOAT, Err(clash)),
+    ] {
+        assert_eq!(rt; are_kinds_under(rt.alloc(), at, type_, want), Ok(true));
+    }
 }

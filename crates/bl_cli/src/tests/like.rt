@@ -113,23 +113,73 @@ const GROUPS_CONVERTED: &[u8] = b"BLENDER_V300\
     \x04\
     ENDB\0\0\0\0\0\0\0\0\0\0\0\0\0\0\0\0";
 
+// An owner with a part of one float, and a block that names the owner.
+const OWNED: &[u8] = b"BLENDER-v405\
+    OW\0\0\x08\0\0\0\0\x01\0\0\0\0\0\0\x01\0\0\0\x01\0\0\0\
+    \0\x02\0\0\0\0\0\0\
+    DATA\x04\0\0\0\0\x02\0\0\0\0\0\0\x02\0\0\0\x01\0\0\0\
+    \0\0\xc0?\
+    RE\0\0\x08\0\0\0\0\x03\0\0\0\0\0\0\x03\0\0\0\x01\0\0\0\
+    \0\x01\0\0\0\0\0\0\
+    DNA1\x80\0\0\0\0\0\0\0\0\0\0\0\0\0\0\0\x01\0\0\0\
+    SDNANAME\x03\0\0\0*part\0value\0*owner\0\0\
+    TYPE\x06\0\0\0int\0float\0One\0Owner\0Part\0Rest\0\0\0\
+    TLEN\x04\0\x04\0\x04\0\x08\0\x04\0\x08\0\
+    STRC\x04\0\0\0\x02\0\x01\0\0\0\x01\0\x03\0\x01\0\x04\0\0\0\x04\0\x01\0\x01\0\x01\0\x05\0\
+    \x01\0\x03\0\x02\0\
+    ENDB\0\0\0\0\0\0\0\0\0\0\0\0\0\0\0\0\0\0\0\0";
+
+// The other file has no owner, and a whole number in a part.
+const NO_OWNER: &[u8] = b"BLENDER-v300\
+    DNA1x\0\0\0\0\0\0\0\0\0\0\0\0\0\0\0\x01\0\0\0\
+    SDNANAME\x03\0\0\0*part\0value\0*owner\0\0\
+    TYPE\x06\0\0\0int\0float\0One\0Owner\0Part\0Rest\0\0\0\
+    TLEN\x04\0\x04\0\x04\0\x08\0\x04\0\x08\0\
+    STRC\x03\0\0\0\x02\0\x01\0\0\0\x01\0\x05\0\x01\0\x03\0\x02\0\x04\0\x01\0\0\0\x01\0\
+    ENDB\0\0\0\0\0\0\0\0\0\0\0\0\0\0\0\0\0\0\0\0";
+
+// So the part goes with its owner, and its float meets nothing.
+const OWNED_CONVERTED: &[u8] = b"BLENDER-v300\
+    RE\0\0\x08\0\0\0\x10\0\0\0\0\0\0\0\x01\0\0\0\x01\0\0\0\
+    \0\0\0\0\0\0\0\0\
+    DNA1x\0\0\0\0\0\0\0\0\0\0\0\0\0\0\0\x01\0\0\0\
+    SDNANAME\x03\0\0\0*part\0value\0*owner\0\0\
+    TYPE\x06\0\0\0int\0float\0One\0Owner\0Part\0Rest\0\0\0\
+    TLEN\x04\0\x04\0\x04\0\x08\0\x04\0\x08\0\
+    STRC\x03\0\0\0\x02\0\x01\0\0\0\x01\0\x05\0\x01\0\x03\0\x02\0\x04\0\x01\0\0\0\x01\0\
+    ENDB\0\0\0\0\0\0\0\0\0\0\0\0\0\0\0\0\0\0\0\0";
+
+// With an owner, which keeps its part.
+const OTHER_OWNER: &[u8] = b"BLENDER-v300\
+    DNA1\x80\0\0\0\0\0\0\0\0\0\0\0\0\0\0\0\x01\0\0\0\
+    SDNANAME\x03\0\0\0*part\0value\0*owner\0\0\
+    TYPE\x06\0\0\0int\0float\0One\0Owner\0Part\0Rest\0\0\0\
+    TLEN\x04\0\x04\0\x04\0\x08\0\x04\0\x08\0\
+    STRC\x04\0\0\0\x02\0\x01\0\0\0\x01\0\x05\0\x01\0\x03\0\x02\0\x04\0\x01\0\0\0\x01\0\x03\0\
+    \x01\0\x04\0\0\0\
+    ENDB\0\0\0\0\0\0\0\0\0\0\0\0\0\0\0\0\0\0\0\0";
+
 #[test]
 fn converts_like(rt: HostRuntime) {
-    for (a, b, line, to) in [
+    for (a, b, status, line, to) in [
         (
             NUMBERS,
             OTHER_NUMBERS,
+            0,
             "blocks 1 bytes 504\n",
             NUMBERS_CONVERTED,
         ),
         (
             GROUPS,
             OTHER_GROUPS,
+            0,
             "blocks 3 bytes 288\n",
             GROUPS_CONVERTED,
         ),
+        (OWNED, NO_OWNER, 0, "blocks 1 bytes 212\n", OWNED_CONVERTED),
+        (OWNED, OTHER_OWNER, 8, "float cast Part.value\n", OWNED),
     ] {
-        let done = becomes(rt.alloc(), a, b, 0, line, to);
+        let done = becomes(rt.alloc(), a, b, status, line, to);
         assert_eq!(rt; done, Ok(true), "{line}");
     }
 }

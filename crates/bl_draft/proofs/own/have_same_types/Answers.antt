@@ -1,12 +1,9 @@
-use Rattle.std.proofs.Common.{sym, ◌∙◌}
-use Rattle.bl_draft.proofs.ListLemmas.{same-all, same-more}
+use Rattle.std.proofs.Common.{◌<◌, length, sym, ◌∙◌, arith}
+use Rattle.bl_draft.proofs.ListLemmas.{same-more}
 use Rattle.bl_draft.proofs.own.have_same_types.Goals as goal
 
 pub loop-k-preserved : goal.loop-k-preserved
 loop-k-preserved c =
-    same-more c.args.types.now c.args.others.now c.loop-k.k c.index-types-k.result c.in-Some.other.now c.loop-k-test.true
-    c.in-Some.ensures.lookup.0 c.in-Some.ensures.lookup.1 (sym c.index-types-k.is ∙ c.is_same_type.ensures c.if-not-is_same_type.false) c.loop-k.invariant
-
-pub returns : goal.returns
-returns c long =
-    same-all c.args.types.now c.args.others.now c.loop-k.k c.loop-k-test.false long c.loop-k.invariant
+    let below : c.loop-k.k < length c.args.others.now = omega (arith, c.loop-k-test.true, c.if-types-others.false) in
+    same-more c.args.types.now c.args.others.now c.loop-k.k _ _ c.loop-k-test.true below
+    (sym c.index-types-k.is ∙ c.is_same_type.ensures.0 c.if-not-is_same_type.false ∙ c.index-others-k.is) c.loop-k.invariant

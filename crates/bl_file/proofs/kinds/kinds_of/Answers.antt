@@ -1,31 +1,39 @@
-use Rattle.std.proofs.Common.{List, length, ap, ◌∙◌}
+use Rattle.std.proofs.Common.{ap, subst, sym, ◌∙◌}
 use Rattle.std.proofs.lemmas.Result.{IfOk-weaker}
-use Rattle.bl_format.specs.Nodes.{Mark}
-use Rattle.bl_file.proofs.ReadLemmas.{held_so}
-use Rattle.bl_file.proofs.RawGroupLemmas.{groups_inside}
-use Rattle.bl_file.proofs.RawNameLaws.{kinds_by_groups}
-use Rattle.bl_file.proofs.TableLemmas.{marks-long}
+use Rattle.bl_file.specs.Heard.{AreHeard}
+use Rattle.bl_file.specs.Seen.{table_names}
+use Rattle.bl_file.specs.Speakers.{basic_lengths, struct_speakers}
+use Rattle.bl_file.proofs.ReadLemmas.{held_both}
+use Rattle.bl_file.proofs.KindLaws.{kinds_of_own, kinds_by_table}
+use Rattle.bl_file.proofs.SpeakerLemmas.{struct_speakers-heard}
 use Rattle.bl_file.proofs.kinds.kinds_of.Goals as goal
 
-pub new-requires-clause-count : goal.new-requires-clause-count
-new-requires-clause-count g c =
-    ap (λ (ms : List Mark). length ms) c.requires.table
-    ∙ marks-long c.args.header.now c.args.layout.now.catalogue c.args.nodes.now
-
-pub new-requires-clause-groups : goal.new-requires-clause-groups
-new-requires-clause-groups g c =
-    groups_inside c.args.header.now c.args.layout.now.catalogue c.args.nodes.now c.args.table.now c.requires.table
-
-pub raw_kinds-requires-clause-count : goal.raw_kinds-requires-clause-count
-raw_kinds-requires-clause-count g c =
-    ap (λ (ms : List Mark). length ms) (c.in_ok-targets.ensures.table ∙ c.requires.table)
-    ∙ marks-long c.args.header.now c.args.layout.now.catalogue c.args.nodes.now
+pub kinds_in_groups-requires-clause-sight : goal.kinds_in_groups-requires-clause-sight
+kinds_in_groups-requires-clause-sight g c =
+    let of = c.args.layout.now in
+    let has = c.catalogue.ensures.has_layout in
+    let own = c.deref-2.ensures.value ∙ c.in_ok-speakers.ensures
+    ∙ ap (struct_speakers of.catalogue of.width) (c.deref.ensures.value ∙ c.in_ok-basics.ensures ∙ ap basic_lengths c.catalogue.ensures.is) in
+    record {
+      width = c.requires.width;
+      has_layout = has;
+      nodes = c.requires.nodes;
+      heard = subst (AreHeard of.catalogue) (sym own) (struct_speakers-heard of.catalogue of.width has);
+    }
 
 pub returns-clause-kinds : goal.returns-clause-kinds
 returns-clause-kinds g c =
-    IfOk-weaker c.raw_kinds.result _ _
-    (λ kinds held. held_so (g.S.Shelf.told c.args.shelf.now) (g.P.Payload.file_name c.args.payload.now) _ _ held
-    (λ b are. kinds_by_groups c.args.header.now c.args.layout.now.catalogue c.args.nodes.now c.args.table.now
-    c.in_ok-targets.targets.table.now c.in_ok-targets.targets.raw_groups.items b kinds.items
-    c.requires.table c.in_ok-targets.ensures.table c.in_ok-targets.ensures.raw are))
-    c.raw_kinds.ensures.kinds
+    let of = c.args.layout.now in
+    let h = c.args.header.now in
+    let nodes = c.args.nodes.now in
+    let table = c.args.table.now in
+    let has = c.catalogue.ensures.has_layout in
+    let own = c.deref-2.ensures.value ∙ c.in_ok-speakers.ensures
+    ∙ ap (struct_speakers of.catalogue of.width) (c.deref.ensures.value ∙ c.in_ok-basics.ensures ∙ ap basic_lengths c.catalogue.ensures.is) in
+    IfOk-weaker c.kinds_in_groups.result _ _
+    (λ kinds held. held_both (g.S.Shelf.told c.args.shelf.now) (g.P.Payload.file_name c.args.payload.now) _ (g.P.Payload.agrees c.args.payload.now) _ held c.requires.held
+    (λ b are agreed. kinds_by_table h of.catalogue nodes table b kinds.items c.requires.table
+    (kinds_of_own (table_names table) h of.catalogue of.width nodes c.deref-2.result.now b
+    (g.P.Payload.file_size c.args.payload.now) kinds.items c.requires.width has c.requires.nodes own
+    (g.met.P.Payload.agreed_size c.args.payload.now b agreed) are)))
+    c.kinds_in_groups.ensures.kinds

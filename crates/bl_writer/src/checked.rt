@@ -1,4 +1,4 @@
-// A draft of an opened file, with what is known of it before anything is read.
+// What is tested of a draft before anything is read, and what is made of its structs.
 ghost use Rattle.std.specs.Prelude.{◌≡◌, ◌≤◌, IfOk, IfErr, OnOk, length};
 ghost use Rattle.bl_format.specs.Limits.{most_output_nodes};
 ghost use Rattle.bl_format.specs.Layout.{HasLayout};
@@ -17,15 +17,6 @@ use std::alloc::Global;
 
 // How many nodes an output may have.
 const MOST_OUTPUT_NODES: u64 = 8_388_608;
-
-/// A draft of an opened file, the file's structs under its catalogue, and the heads of its entries.
-#[derive(Clone, Copy)]
-pub struct Prepared<'a> {
-    pub draft: &'a Draft,
-    pub outline: &'a Outline,
-    pub structs: &'a TargetStructs<'a>,
-    pub heads: &'a [Head],
-}
 
 /// A draft's catalogue, laid out at the width of its header. It has a layout, so that only memory may
 /// be wanted.
