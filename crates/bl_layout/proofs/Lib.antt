@@ -21,3 +21,4 @@ pub mod LevelLemmas
 pub mod LeafFactLemmas
 pub mod PointeeLemmas
 pub mod KeyLemmas
+pub mod NewLengthLemmas

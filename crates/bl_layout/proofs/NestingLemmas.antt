@@ -120,7 +120,8 @@ round_deeper c inner k m are is =
     ∙ ap (λ (row : List ℕ). suc (fold max 0 (map (nesting_within k c) row))) (links-inner c inner s are)
     ∙ ap (λ (x : ℕ). nesting_within x c s) (sym next)))
 
-replicate_push : (m x : ℕ) → replicate m x ++ x ∷ [] ≡ replicate (suc m) x
+-- a list of one number over and over, with one more
+pub replicate_push : (m x : ℕ) → replicate m x ++ x ∷ [] ≡ replicate (suc m) x
 replicate_push zero x = refl
 replicate_push (suc m) x = ap (λ (xs : List ℕ). x ∷ xs) (replicate_push m x)
 
@@ -144,7 +145,8 @@ nestings_small c k bound le = small (struct_numbers c)
 pub nestings-len : (c : Catalogue) (k : ℕ) → length (nestings_within k c) ≡ length c.structs
 nestings-len c k = length-map (numbers_below (length c.structs)) (nesting_within k c) ∙ length-numbers_below (length c.structs)
 
-find_map-map : {X : Type 0} (g : ℕ → Option X) (h : ℕ → ℕ) (f : ℕ → Option X) (xs : List ℕ) → ((x : ℕ) → f x ≡ g (h x)) → find_map f xs ≡ find_map g (map h xs)
+-- what is found by one function after another
+pub find_map-map : {X : Type 0} (g : ℕ → Option X) (h : ℕ → ℕ) (f : ℕ → Option X) (xs : List ℕ) → ((x : ℕ) → f x ≡ g (h x)) → find_map f xs ≡ find_map g (map h xs)
 find_map-map g h f [] same = refl
 find_map-map g h f (x ∷ xs) same = ap (λ o. option_or o (find_map f xs)) (same x) ∙ ap (option_or (g (h x))) (find_map-map g h f xs same)
 

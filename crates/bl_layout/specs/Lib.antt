@@ -14,3 +14,4 @@ pub mod LaidOut
 pub mod Counts
 pub mod Leaves
 pub mod LeafFacts
+pub mod NewLengths

@@ -15,7 +15,7 @@ pub fn copy_of(alloc: Global, catalogue: &Catalogue) -> Result<Catalogue, AllocE
     })
 }
 
-fn copy_of_names(alloc: Global, names: &[Text]) -> Result<Items<Text>, AllocError>
+pub fn copy_of_names(alloc: Global, names: &[Text]) -> Result<Items<Text>, AllocError>
     ensures { IfOk result (λ copy. copy ≡ names.now) }
 {
     let mut copy = Vec::with_capacity(alloc, names.len())?;
@@ -44,7 +44,10 @@ fn copy_of_type(alloc: Global, entry: &TypeEntry) -> Result<TypeEntry, AllocErro
     })
 }
 
-fn copy_of_structs(alloc: Global, structs: &[StructEntry]) -> Result<Items<StructEntry>, AllocError>
+pub fn copy_of_structs(
+    alloc: Global,
+    structs: &[StructEntry],
+) -> Result<Items<StructEntry>, AllocError>
     ensures { IfOk result (λ copy. copy ≡ structs.now) }
 {
     let mut copy = Vec::with_capacity(alloc, structs.len())?;

@@ -61,7 +61,7 @@ pub fn member_size(catalogue: &Catalogue, tables: &Tables, width: Width, member:
     element_size(catalogue, tables, width, member) * u64::from(count)
 }
 
-fn pointer_bytes(width: Width) -> u64
+pub fn pointer_bytes(width: Width) -> u64
     ensures { result ≡ pointer_bytes width }
 {
     match width {

@@ -34,8 +34,8 @@ fn content_of(name: &[u8], number: Option<u32>) -> Content
     }
 }
 
-// By the number of a type, the first struct that has it.
-fn struct_numbers(
+/// By the number of a type, the first struct that has it.
+pub fn struct_numbers(
     alloc: Global,
     types: usize,
     structs: &[StructEntry],
