@@ -5,6 +5,7 @@ mod catalogues;
 mod drafts;
 mod examples;
 mod files;
+mod forms;
 mod header_and_blocks;
 mod layouts;
 mod like;

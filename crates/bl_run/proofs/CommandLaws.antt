@@ -23,7 +23,7 @@ none_lawful = record {
 
 pub all_lawful : (command : Option Command) → IsLawful (meaning_of command)
 all_lawful None = none_lawful
-all_lawful (Some (commands.Convert input out options)) = convert_lawful input out options.like
+all_lawful (Some (commands.Convert input out options)) = convert_lawful input out options.like options.width options.order
 all_lawful (Some (commands.Append into lib out names)) = none_lawful
 all_lawful (Some (commands.Link into lib out names)) = none_lawful
 all_lawful (Some (commands.Resolve input out)) = none_lawful

@@ -1,6 +1,6 @@
 -- What the checks of inputs say of them: where none gives an ending they are held and accepted; an ending has its cause in
 -- one; and what is accepted passes them.
-use Rattle.std.proofs.Common.{◌≡◌, ◌≢◌, ◌⊎◌, ◌<◌, ◌≤◌, ◌+◌, ℕ, List, [], ◌∷◌, length, Bool, true, false, cond, Option, Some, None, Ok, refl, sym, ap, subst, ◌∙◌, inl, inr, arith}
+use Rattle.std.proofs.Common.{◌≡◌, ◌≢◌, ◌⊎◌, ◌<◌, ◌≤◌, ◌+◌, ℕ, List, [], ◌∷◌, ◌++◌, length, Bool, true, false, cond, Option, Some, None, Ok, refl, sym, ap, subst, ◌∙◌, inl, inr, arith}
 use Rattle.std.specs.Prelude.{option_map, unwrap_or, nat_lt, IfErr, IsOk}
 use Rattle.std.specs.FinMap.{get}
 use Rattle.bl_format.specs.Limits.{most_blocks, most_input_bytes}
@@ -28,7 +28,7 @@ first_of_one None = refl
 first_of_one (Some e) = refl
 
 -- the first of two is one of them
-first_of_two : (a b : Option Ending) (e : Ending) → first_ending (a ∷ b ∷ []) ≡ Some e → (a ≡ Some e) ⊎ (b ≡ Some e)
+pub first_of_two : (a b : Option Ending) (e : Ending) → first_ending (a ∷ b ∷ []) ≡ Some e → (a ≡ Some e) ⊎ (b ≡ Some e)
 first_of_two (Some x) b e is = inl is
 first_of_two None b e is = inr (sym (first_of_one b) ∙ is)
 
@@ -40,23 +40,27 @@ none_of_two None b is = (refl, sym (first_of_one b) ∙ is)
 pub two_pass : (a b : Option Ending) → a ≡ None → b ≡ None → first_ending (a ∷ b ∷ []) ≡ None
 two_pass a b first second = rw (first, second) refl
 
--- the first of four is that of the first two, or, where these give none, one of the others
-pub first_of_four : (a b x y : Option Ending) (e : Ending) → first_ending (a ∷ b ∷ x ∷ y ∷ []) ≡ Some e
-    → (first_ending (a ∷ b ∷ []) ≡ Some e) ⊎ ((a ≡ None) × (b ≡ None) × ((x ≡ Some e) ⊎ (y ≡ Some e)))
-first_of_four (Some u) b x y e is = inl is
-first_of_four None (Some u) x y e is = inl is
-first_of_four None None (Some u) y e is = inr (refl, refl, inl is)
-first_of_four None None None y e is = inr (refl, refl, inr (sym (first_of_one y) ∙ is))
+-- the first of some checks and more is that of some, or else that of the others
+pub first_split : (xs ys : List (Option Ending)) (e : Ending) → first_ending (xs ++ ys) ≡ Some e
+    → (first_ending xs ≡ Some e) ⊎ ((first_ending xs ≡ None) × (first_ending ys ≡ Some e))
+first_split [] ys e is = inr (refl, is)
+first_split (None ∷ xs) ys e is = first_split xs ys e is
+first_split (Some u ∷ xs) ys e is = inl is
 
--- where the first of four gives none, none of them does
-pub none_of_four : (a b x y : Option Ending) → first_ending (a ∷ b ∷ x ∷ y ∷ []) ≡ None → (a ≡ None) × (b ≡ None) × (x ≡ None) × (y ≡ None)
-none_of_four (Some u) b x y is = absurd (cc)
-none_of_four None (Some u) x y is = absurd (cc)
-none_of_four None None (Some u) y is = absurd (cc)
-none_of_four None None None y is = (refl, refl, refl, sym (first_of_one y) ∙ is)
+pub none_split : (xs ys : List (Option Ending)) → first_ending (xs ++ ys) ≡ None → (first_ending xs ≡ None) × (first_ending ys ≡ None)
+none_split [] ys is = (refl, is)
+none_split (None ∷ xs) ys is = none_split xs ys is
+none_split (Some u ∷ xs) ys is = absurd (cc)
 
-pub four_pass : (a b x y : Option Ending) → a ≡ None → b ≡ None → x ≡ None → y ≡ None → first_ending (a ∷ b ∷ x ∷ y ∷ []) ≡ None
-four_pass a b x y first second third fourth = rw (first, second, third, fourth) refl
+pub split_some : (xs ys : List (Option Ending)) (e : Ending) → first_ending xs ≡ Some e → first_ending (xs ++ ys) ≡ Some e
+split_some [] ys e is = absurd (cc)
+split_some (None ∷ xs) ys e is = split_some xs ys e is
+split_some (Some u ∷ xs) ys e is = is
+
+pub split_none : (xs ys : List (Option Ending)) → first_ending xs ≡ None → first_ending (xs ++ ys) ≡ first_ending ys
+split_none [] ys is = refl
+split_none (None ∷ xs) ys is = split_none xs ys is
+split_none (Some u ∷ xs) ys is = absurd (cc)
 
 -- ---- where no check gives an ending
 
@@ -146,7 +150,7 @@ unfolding open_fault
 fault_caused used held input None fault e is found gives = let same : opens.Absent ≡ fault = cc in inl (is, gives ∙ ap (open_ending input) (sym same))
 fault_caused used held input (Some b) fault e is found gives = inr (record { b = b; is_held = is; fault = fault; has = open_refused used b fault found; gives = gives })
 
-check_caused : (used : ℕ) (held : Held) (input : List ℕ) (e : Ending) → opening_check used held input ≡ Some e → HasInputCause used held input e
+pub check_caused : (used : ℕ) (held : Held) (input : List ℕ) (e : Ending) → opening_check used held input ≡ Some e → HasInputCause used held input e
 check_caused used held input e is = by_fault (open_fault used (get held input)) refl is
   where
     by_fault : (o : Option OpenFault) → open_fault used (get held input) ≡ o → option_map (open_ending input) o ≡ Some e → HasInputCause used held input e

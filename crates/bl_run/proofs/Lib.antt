@@ -8,4 +8,5 @@ pub mod Opens
 pub mod Read
 pub mod Refusals
 pub mod Runs
+pub mod SameWidths
 pub mod Written

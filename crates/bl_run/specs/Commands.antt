@@ -15,13 +15,13 @@ use Rattle.bl_run.specs.Commands.Convert.{convert_meaning}
 use Rattle.bl_run.specs.Commands.Fates.{fates_meaning}
 use Rattle.bl_run.specs.Commands.Schema.{schema_meaning}
 
--- convert is given no option but `--like`
-abbrev pub has_like_alone : ConvertOptions → Bool
-has_like_alone o = not (is_some o.width || is_some o.order || is_some o.head || is_some o.renames)
+-- convert is given no option but `--like`, `--width` and `--order`
+abbrev pub has_form_alone : ConvertOptions → Bool
+has_form_alone o = not (is_some o.head || is_some o.renames)
 
 -- this program has the command
 abbrev pub is_built : Command → Bool
-is_built (commands.Convert input out options) = has_like_alone options
+is_built (commands.Convert input out options) = has_form_alone options
 is_built (commands.Schema input) = true
 is_built (commands.Fates input cat renames) = not (is_some renames)
 is_built _ = false
@@ -32,7 +32,7 @@ built command = when (is_built command) command
 
 -- the meaning of a command that this program has
 abbrev pub meaning_of : Option Command → Meaning
-meaning_of (Some (commands.Convert input out options)) = convert_meaning input out options.like
+meaning_of (Some (commands.Convert input out options)) = convert_meaning input out options.like options.width options.order
 meaning_of (Some (commands.Schema input)) = schema_meaning input
 meaning_of (Some (commands.Fates input cat renames)) = fates_meaning input cat
 meaning_of _ = no_meaning

@@ -2,7 +2,7 @@
 ghost use Rattle.std.specs.Prelude.{◌≡◌, Option, None, IfOk, option_and_then};
 ghost use Rattle.bl_commands.specs.declared.command.Command.{Command};
 ghost use Rattle.bl_run.specs.Blame.{IsUsage};
-ghost use Rattle.bl_run.specs.Commands.{built, has_like_alone, meaning_of};
+ghost use Rattle.bl_run.specs.Commands.{built, has_form_alone, meaning_of};
 ghost use Rattle.bl_run.specs.Obeying.{Obeys};
 
 mod convert;
@@ -15,14 +15,11 @@ use bl_shelf::{Shelf, Sink};
 use bl_words::{Command, ConvertOptions};
 use std::alloc::Global;
 
-// Whether convert is given no option but `--like`.
-fn has_like_alone(options: &ConvertOptions) -> bool
-    ensures { result ≡ has_like_alone options.now }
+// Whether convert is given no option but `--like`, `--width` and `--order`.
+fn has_form_alone(options: &ConvertOptions) -> bool
+    ensures { result ≡ has_form_alone options.now }
 {
-    options.width.is_none()
-        && options.order.is_none()
-        && options.head.is_none()
-        && options.renames.is_none()
+    options.head.is_none() && options.renames.is_none()
 }
 
 /// Does what words say, by the command that they spell, if this program has it. The command is
@@ -50,11 +47,11 @@ pub fn perform<S: Shelf, O: Sink>(
                     options,
                 },
             ),
-        ) if has_like_alone(options) => convert::convert(
+        ) if has_form_alone(options) => convert::convert(
             alloc,
             input.as_str(),
             name.as_str(),
-            &options.like,
+            options,
             shelf,
             out,
         ),

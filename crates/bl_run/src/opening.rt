@@ -25,17 +25,6 @@ pub fn open_ending(alloc: Global, name: &str, fault: OpenFault) -> Ending
     }
 }
 
-/// How a run ends that doesn't bring the file under a name to another width yet, unless memory is
-/// wanted for the name.
-pub fn not_built_ending(alloc: Global, name: &str) -> Ending
-    ensures { (result ≡ Ending.BadFile name.now FileFault.NotBuilt) ⊎ (result ≡ Ending.NoMemory) }
-{
-    match name_text(alloc, name) {
-        Ok(file) => bad_file(file, FileFault::NotBuilt),
-        Err(_) => Ending::NoMemory,
-    }
-}
-
 // How a fault of a file ends a run.
 fn ending_of(file: Text, fault: OpenFault) -> Ending
     ensures { result ≡ open_ending file fault }

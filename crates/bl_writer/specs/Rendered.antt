@@ -9,6 +9,7 @@ use Rattle.bl_file.specs.Calls.{Tells}
 use Rattle.bl_file.specs.Opening.{file_in}
 use Rattle.bl_draft.specs.declared.prepared.Prepared.{Prepared}
 use Rattle.bl_draft.specs.Structs.{HasNoClash}
+use Rattle.bl_draft.specs.Whole.{IsOfAll}
 use Rattle.bl_writer.specs.declared.fault.WriteFault.{WriteFault}
 use Rattle.bl_writer.specs.declared.rendering.Totals.{Totals}
 use Rattle.bl_writer.specs.Calls.{CountsWrites, HoldsFrom, RefusesFirst, Stages}
@@ -16,6 +17,12 @@ use Rattle.bl_writer.specs.Faults.{KeepsLimits}
 use Rattle.bl_writer.specs.Outputs.{selection_form}
 use Rattle.bl_writer.specs.Rendering.{staged_as}
 use Rattle.bl_writer.specs.Totals.{AreTotals}
+
+-- a draft has all nodes of a file, each as its own image, under the file's own catalogue and width
+pub record IsOwn (o : Outline) (d : Draft) : Type 0 where
+  pub all : IsOfAll (length o.nodes) d
+  pub catalogue : d.catalogue ≡ o.layout.catalogue
+  pub width : d.header.width ≡ o.header.width
 
 -- a prepared draft has few enough nodes, and no float that would become another number
 pub record IsChecked (x : Prepared) : Type 0 where

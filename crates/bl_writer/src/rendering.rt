@@ -9,7 +9,7 @@ ghost use Rattle.bl_draft.specs.Whole.{IsOfAll};
 ghost use Rattle.bl_writer.specs.Calls.{CountsWrites, RefusesFirst, Stages};
 ghost use Rattle.bl_writer.specs.Faults.{KeepsLimits};
 ghost use Rattle.bl_writer.specs.Outputs.{selection_form};
-ghost use Rattle.bl_writer.specs.Rendered.{HasRendered, IsChecked};
+ghost use Rattle.bl_writer.specs.Rendered.{HasRendered, IsChecked, IsOwn};
 ghost use Rattle.bl_writer.specs.Rendering.{staged_as};
 ghost use Rattle.bl_writer.specs.Totals.{AreTotals};
 
@@ -74,9 +74,8 @@ fn render_entries<S: Shelf, P: Payload>(
     render_output(alloc, &output, &targets, payload, shelf, name)
 }
 
-// Stages a draft of all nodes with the file's IDs. What addresses name is taken as the file has it, and
-// so are kinds under the file's own catalogue and width.
-fn render_all<S: Shelf, P: Payload>(
+// Stages a draft of all nodes with the file's IDs: what addresses name is taken as the file has it.
+fn render_with_file_ids<S: Shelf, P: Payload>(
     alloc: Global,
     prepared: &Prepared,
     payload: &mut P,
@@ -100,17 +99,6 @@ fn render_all<S: Shelf, P: Payload>(
     let targets = FileTargets {
         table: &outline.table,
     };
-    if has_own_structs(outline, draft) {
-        let output = Output {
-            from: outline.header,
-            source: &outline.layout,
-            header: draft.header,
-            structs,
-            nodes: heads,
-            kinds: outline.kinds.as_slice(),
-        };
-        return render_output(alloc, &output, &targets, payload, shelf, name);
-    }
     let kinds = match kinds_of_all(alloc, prepared, payload, shelf) {
         Ok(kinds) => kinds,
         Err(fault) => return Err(write_fault(fault)),
@@ -122,6 +110,38 @@ fn render_all<S: Shelf, P: Payload>(
         structs,
         nodes: heads,
         kinds: &kinds,
+    };
+    render_output(alloc, &output, &targets, payload, shelf, name)
+}
+
+// Stages a draft of all nodes, each as its own image, under the file's own catalogue and width: heads,
+// kinds and what addresses name are taken as the file has them.
+fn render_own<S: Shelf, P: Payload>(
+    alloc: Global,
+    draft: &Draft,
+    outline: &Outline,
+    payload: &mut P,
+    shelf: &mut S,
+    name: &str,
+) -> Result<Totals, WriteFault>
+    requires source { IsSource S.Shelf P.Payload shelf.old draft.now outline.now payload.old }
+    requires own { IsOwn outline.now draft.now }
+    requires staged { S.room shelf.old ≡ None }
+    ensures { HasRendered S.Shelf P.Payload name.now draft.now outline.now shelf.old shelf.new
+        payload.old payload.new result }
+{
+    let heads = outline.nodes.as_slice();
+    let structs = checked_structs(alloc, outline, draft, &outline.layout, heads)?;
+    let targets = FileTargets {
+        table: &outline.table,
+    };
+    let output = Output {
+        from: outline.header,
+        source: &outline.layout,
+        header: draft.header,
+        structs: &structs,
+        nodes: heads,
+        kinds: outline.kinds.as_slice(),
     };
     render_output(alloc, &output, &targets, payload, shelf, name)
 }
@@ -153,7 +173,7 @@ fn render_nodes<S: Shelf, P: Payload>(
         heads,
     };
     match has_file_ids(alloc, &prepared) {
-        Ok(true) => render_all(alloc, &prepared, payload, shelf, name),
+        Ok(true) => render_with_file_ids(alloc, &prepared, payload, shelf, name),
         Ok(false) => render_entries(alloc, &prepared, payload, shelf, name),
         Err(_) => Err(WriteFault::NoMemory),
     }
@@ -207,11 +227,14 @@ fn render_source<S: Shelf, P: Payload>(
     ensures { HasRendered S.Shelf P.Payload name.now draft.now outline.now shelf.old shelf.new
         payload.old payload.new result }
 {
-    if has_own_structs(outline, draft) {
-        return render_under(alloc, draft, outline, &outline.layout, payload, shelf, name);
+    if !has_own_structs(outline, draft) {
+        let layout = layout_of(alloc, draft)?;
+        return render_under(alloc, draft, outline, &layout, payload, shelf, name);
     }
-    let layout = layout_of(alloc, draft)?;
-    render_under(alloc, draft, outline, &layout, payload, shelf, name)
+    if is_of_all(draft, outline.nodes.as_slice().len()) {
+        return render_own(alloc, draft, outline, payload, shelf, name);
+    }
+    render_under(alloc, draft, outline, &outline.layout, payload, shelf, name)
 }
 
 /// Stages the written form of a draft's selection under a name. The draft has nodes of one opened

@@ -159,6 +159,40 @@ const OTHER_OWNER: &[u8] = b"BLENDER-v300\
     \x01\0\x04\0\0\0\
     ENDB\0\0\0\0\0\0\0\0\0\0\0\0\0\0\0\0\0\0\0\0";
 
+// Two datablocks that name the second one. All structs are in the other catalogue, but there none is an ID, since a
+// pointer stands in front of the part of one.
+const IDS: &[u8] = b"BLENDER-v405\
+    ME\0\0\x0c\0\0\0\0\x01\0\0\0\0\0\0\x02\0\0\0\x01\0\0\0MEa\0\0\x02\0\0\0\0\0\0\
+    ME\0\0\x0c\0\0\0\0\x02\0\0\0\0\0\0\x02\0\0\0\x01\0\0\0MEb\0\0\x02\0\0\0\0\0\0\
+    DNA1l\0\0\0\0\0\0\0\0\0\0\0\0\0\0\0\x01\0\0\0\
+    SDNANAME\x04\0\0\0x\0name[4]\0id\0*next\0\0\
+    TYPE\x04\0\0\0char\0One\0ID\0Mesh\0\0\0\0\
+    TLEN\x01\0\x01\0\x04\0\x0c\0\
+    STRC\x03\0\0\0\x01\0\x01\0\0\0\0\0\x02\0\x01\0\0\0\x01\0\x03\0\x02\0\x02\0\x02\0\x03\0\x03\
+    \0\
+    ENDB\0\0\0\0\0\0\0\0\0\0\0\0\0\0\0\0\0\0\0\0";
+
+const NO_IDS: &[u8] = b"BLENDER-v300\
+    DNA1l\0\0\0\0\0\0\0\0\0\0\0\0\0\0\0\x01\0\0\0\
+    SDNANAME\x04\0\0\0x\0*next\0id\0name[4]\0\0\
+    TYPE\x04\0\0\0char\0One\0ID\0Mesh\0\0\0\0\
+    TLEN\x01\0\x01\0\x04\0\x0c\0\
+    STRC\x03\0\0\0\x01\0\x01\0\0\0\0\0\x03\0\x02\0\x03\0\x01\0\x02\0\x02\0\x02\0\x01\0\0\0\x03\
+    \0\
+    ENDB\0\0\0\0\0\0\0\0\0\0\0\0\0\0\0\0\0\0\0\0";
+
+// So the pointer from another group is null.
+const IDS_CONVERTED: &[u8] = b"BLENDER-v300\
+    ME\0\0\x0c\0\0\0\x10\0\0\0\0\0\0\0\x01\0\0\0\x01\0\0\0\0\0\0\0\0\0\0\0MEa\0\
+    ME\0\0\x0c\0\0\0 \0\0\0\0\0\0\0\x01\0\0\0\x01\0\0\0 \0\0\0\0\0\0\0MEb\0\
+    DNA1l\0\0\0\0\0\0\0\0\0\0\0\0\0\0\0\x01\0\0\0\
+    SDNANAME\x04\0\0\0x\0*next\0id\0name[4]\0\0\
+    TYPE\x04\0\0\0char\0One\0ID\0Mesh\0\0\0\0\
+    TLEN\x01\0\x01\0\x04\0\x0c\0\
+    STRC\x03\0\0\0\x01\0\x01\0\0\0\0\0\x03\0\x02\0\x03\0\x01\0\x02\0\x02\0\x02\0\x01\0\0\0\x03\
+    \0\
+    ENDB\0\0\0\0\0\0\0\0\0\0\0\0\0\0\0\0\0\0\0\0";
+
 #[test]
 fn converts_like(rt: HostRuntime) {
     for (a, b, status, line, to) in [
@@ -176,6 +210,7 @@ fn converts_like(rt: HostRuntime) {
             "blocks 3 bytes 288\n",
             GROUPS_CONVERTED,
         ),
+        (IDS, NO_IDS, 0, "blocks 2 bytes 240\n", IDS_CONVERTED),
         (OWNED, NO_OWNER, 0, "blocks 1 bytes 212\n", OWNED_CONVERTED),
         (OWNED, OTHER_OWNER, 8, "float cast Part.value\n", OWNED),
     ] {
@@ -323,7 +358,7 @@ fn refuses_outputs_past_limits(rt: HostRuntime) {
     }
 }
 
-// The input's faults come before those of the other file. Other widths aren't built.
+// The input's faults come before those of the other file.
 #[test]
 fn refuses_other_catalogues(rt: HostRuntime) {
     for (a, b, line) in [
@@ -332,7 +367,7 @@ fn refuses_other_catalogues(rt: HostRuntime) {
             b"BLENDER".as_slice(),
             "bad file a: BadMagic\n",
         ),
-        (NUMBERS, GROUPS, "bad file b: NotBuilt\n"),
+        (NUMBERS, b"BLENDER", "bad file b: BadMagic\n"),
     ] {
         let refused = becomes(rt.alloc(), a, b, 6, line, a);
         assert_eq!(rt; refused, Ok(true), "{line}");

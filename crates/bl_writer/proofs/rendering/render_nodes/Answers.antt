@@ -5,8 +5,8 @@ pub checked_structs-requires-clause-heads : goal.checked_structs-requires-clause
 checked_structs-requires-clause-heads g c =
     nodes-known c.args.outline.now c.args.draft.now c.as_slice-heads.result.now c.requires.all c.as_slice-heads.ensures
 
-pub render_all-requires-clause-prepared : goal.render_all-requires-clause-prepared
-render_all-requires-clause-prepared g c = record {
+pub render_with_file_ids-requires-clause-prepared : goal.render_with_file_ids-requires-clause-prepared
+render_with_file_ids-requires-clause-prepared g c = record {
   source = c.requires.source;
   structs = c.in_ok-structs.ensures.made;
   heads = nodes-known c.args.outline.now c.args.draft.now c.as_slice-heads.result.now c.requires.all c.as_slice-heads.ensures;
