@@ -128,12 +128,12 @@ def look(folder):
 class Held:
     """A run that stands before its line: its part is written, and waits for `go`."""
 
-    def __init__(self, case, out="out", place=None, **how):
+    def __init__(self, case, out="out", place=None, options=(), **how):
         self.case = case
         self.reader, writer = os.pipe()
         self.filled = fill(writer)
-        self.run = subprocess.Popen([program, "convert", "in", out], cwd=case.folder, stdin=subprocess.DEVNULL,
-                                    stdout=writer, stderr=subprocess.DEVNULL, **how)
+        self.run = subprocess.Popen([program, "convert", "in", out, *options], cwd=case.folder,
+                                    stdin=subprocess.DEVNULL, stdout=writer, stderr=subprocess.DEVNULL, **how)
         os.close(writer)
         self.part = self.wait(place or case.folder)
 
@@ -389,23 +389,26 @@ CHANGES = {"written_to": write_in_place, "longer": append, "shorter": lambda pat
            "replaced": replace, "removed": os.unlink}
 
 
-def trial_of_change(name, change):
+def trial_of_change(name, change, options=()):
     def meanwhile(folder):
         case = Case(folder, LARGE)
+        cat = folder / "cat"
+        cat.write_bytes(LARGE)
         time.sleep(STEP)
-        with Held(case) as held:
-            change(case.input)
+        with Held(case, options=options) as held:
+            change(cat if options else case.input)
             ended = held.go()
         check(ended == (5, case.line + b"device\n"), "ended with", ended)
         check(case.out.read_bytes() == OLD, "the output isn't as it was")
         check(not left_in(folder), "left", left_in(folder))
 
-    meanwhile.__name__ = f"in_is_{name}_meanwhile"
+    meanwhile.__name__ = f"{name}_meanwhile"
     trial(meanwhile)
 
 
 for name, change in CHANGES.items():
-    trial_of_change(name, change)
+    trial_of_change(f"in_is_{name}", change)
+    trial_of_change(f"cat_is_{name}", change, ("--like", "cat"))
 
 
 @trial

@@ -1,9 +1,10 @@
 """Runs `calumevio convert`, and compares each output byte for byte with what the oracle makes.
 
 Tried are a small file of each sort of struct blocks, small files that were changed at random, small files under the
-catalogue of another, and the `.blend` files of a folder, where one is given. These are also converted to the catalogue
-of an old file of each version, and back; where a float meets another number, once more without the blocks of
-such structs. The old files are those of Debian's package `assimp-testmodels`. The text of `fates` is compared, too.
+catalogue of another in any width and order, and the `.blend` files of a folder, where one is given. These are also
+converted to the other width and the other order, and back, and to the catalogue of an old file of each version, and
+back. Where a float meets another number, that is tried once more without the blocks of such structs. The old files are
+those of Debian's package `assimp-testmodels`. The text of `fates` is compared, too.
 
 Each run has to end soon and in little memory, with a line of its status, and what it makes has to convert to itself. A
 run that refuses leaves the output as it was; no part of a file is left. Real files that aren't read are skipped. The
@@ -27,6 +28,10 @@ SMALL = 2_000
 LEAST_VERSION = 250
 BEFORE = b"what the output was"
 LINES = {0: b"blocks ", 6: b"bad file ", 8: b"float cast ", 9: b"limit "}
+ORDERS = {"<": "little", ">": "big"}
+# The forms that are wanted: any width with any order, or what the file has.
+FORMS = [(width, order) for width in (None, 4, 8) for order in (None, "<", ">")]
+OWN_FORM = FORMS[0]
 PACKAGE = "assimp-testmodels"
 # The lines of files that Blender 3.4 saved, by their names and their bytes.
 SAVED = {
@@ -40,8 +45,9 @@ SAVED = {
 }
 
 
-def convert(given, folder, name, out, seconds, like=None):
-    words = [given.program, "convert", name, out, *(["--like", like] if like else [])]
+def convert(given, folder, name, out, seconds, like=None, width=None, order=None):
+    options = {"--like": like, "--width": width and str(width), "--order": order and ORDERS[order]}
+    words = [given.program, "convert", name, out, *(word for each in options.items() if each[1] for word in each)]
     return driver.Run(words, folder, None, seconds, given.mebibytes)
 
 
@@ -63,9 +69,9 @@ def output_faults(given, folder, wanted, line, seconds):
         yield f"the output doesn't convert to itself, with the answer {again}"
 
 
-def faults(given, folder, file, before, seconds=LONG_SECONDS, like=None):
+def faults(given, folder, file, before, seconds=LONG_SECONDS, like=None, form=OWN_FORM):
     """The status of a run on a file, where the output was `before`, and what is wrong with it. A file that is converted
-    under the catalogue of another one is accepted, and so is that one."""
+    under the catalogue of another one, or to another form, is accepted, and so is that one."""
     for old in folder.iterdir():
         old.unlink()
     inputs = {"input": file, **({"cat": like} if like else {})}
@@ -74,8 +80,8 @@ def faults(given, folder, file, before, seconds=LONG_SECONDS, like=None):
     output = folder / "output"
     if before:
         output.write_bytes(before)
-    status, line = convert(given, folder, "input", "output", seconds, like and "cat").answer
-    wanted = oracle.outcome(file, like) if like or status == 0 else None
+    status, line = convert(given, folder, "input", "output", seconds, like and "cat", *form).answer
+    wanted = oracle.outcome(file, like, *form) if like or form != OWN_FORM or status == 0 else None
     found = []
     if status not in LINES:
         found.append(f"status {status}, {line}")
@@ -122,15 +128,16 @@ def random_files(given, folder):
 
 
 def random_pairs(given, folder):
-    """How many small files are wrong under the catalogue of another, after a line of each of these."""
+    """How many small files are wrong under the catalogue of another, in any form, after a line of each of these."""
     statuses, wrong = collections.Counter(), 0
     for seed in range(given.first, given.first + given.pairs):
         file, like = node_pairs.made(seed)
-        status, found = faults(given, folder, file, BEFORE if seed % 2 else None, given.seconds, like)
+        form = FORMS[seed % len(FORMS)]
+        status, found = faults(given, folder, file, BEFORE if seed % 2 else None, given.seconds, like, form)
         statuses[status] += 1
         if found:
             wrong += 1
-            print(f"pair {seed}: {'; '.join(found)}: {file.hex()} {like.hex()}")
+            print(f"pair {seed}, {form}: {'; '.join(found)}: {file.hex()} {like.hex()}")
     print(f"{given.pairs} pairs of small files, {wrong} wrong; by status: {dict(statuses.most_common())}", flush=True)
     return wrong
 
@@ -238,15 +245,35 @@ def both_ways(given, folder, files, one, other):
     return wrong
 
 
+def other_forms(given, folder, files):
+    """How many real files are wrong in the other width, in the other order, in both, or back from there, after a line of
+    each."""
+    wrong = 0
+    for name, file in files.items():
+        own = parts.form(file)
+        width, order = 12 - own.width, {"<": ">", ">": "<"}[own.order]
+        found = [f"{form}: {fault}" for form in ((width, None), (None, order), (width, order))
+                 for fault in faults(given, folder, file, None, form=form)[1]]
+        there = oracle.outcome(file, width=width, order=order)
+        if there.status == 0:
+            found += [f"back: {fault}" for fault in faults(given, folder, there.output, None, form=own[:2])[1]]
+            if oracle.outcome(there.output, width=own.width, order=own.order).output != oracle.outcome(file).output:
+                found.append("the oracle doesn't come back to the own form")
+        wrong += bool(found)
+        print(f"{name}, other forms: {there.line.decode().rstrip()}; {'; '.join(found) or 'as the oracle says'}", flush=True)
+    return wrong
+
+
 def samples(given, folder):
-    """How many real files are wrong, in their own form and under each other's catalogues: each sample with an old file
-    of each version, and each old file with the next one."""
+    """How many real files are wrong, in their own form and in others, and under each other's catalogues: each sample with
+    an old file of each version, and each old file with the next one."""
     new, old = saved(given.samples.glob("*.blend")), old_files()
     in_order = sorted(old, key=lambda name: parts.form(old[name]).version)
     versions = {parts.form(old[name]).version: name for name in in_order}
     pairs = [(one, other) for one in new for other in versions.values()] + list(zip(in_order, in_order[1:]))
     files = {**new, **old}
-    return own_forms(given, folder, files) + sum(both_ways(given, folder, files, *pair) for pair in pairs)
+    return (own_forms(given, folder, files) + other_forms(given, folder, files)
+            + sum(both_ways(given, folder, files, *pair) for pair in pairs))
 
 
 def main():

@@ -10,7 +10,9 @@ each block. An output has to convert to itself, and that of `raw` has the bytes 
 
 With `--like` each file is also converted under the catalogue of another file, by turns with the rest. `same` has the
 file's own catalogue, and the output has to be that of the file's own form. In `grown` each struct has a member more,
-and what becomes of the output under `same` has to be that. The last column is the time beside that of the own form.
+and what becomes of the output under `same` has to be that. With `--forms` each is also converted to pointers of 4 bytes
+and the highest byte first (`turned`), and back from there it has to be that, too. The last column is the time beside that
+of the own form.
 
 The status is 1 where an output isn't right, and 0 whatever the times are."""
 import argparse
@@ -24,8 +26,11 @@ import driver
 from blend import example, parts, sdna
 from make import apart, grown_catalogues, raw_blocks, repeated_blocks, struct_blocks
 
-# The files whose catalogue a file is converted under.
-SAME, GROWN = "same", "grown"
+# The files whose catalogue a file is converted under, and another form.
+SAME, GROWN, TURNED = "same", "grown", "turned"
+OPTIONS = {None: [], SAME: ["--like", SAME], GROWN: ["--like", GROWN], TURNED: ["--width", "4", "--order", "big"]}
+# What makes the own form of an output again, where it isn't that.
+BACK = {GROWN: OPTIONS[SAME], TURNED: ["--width", "8", "--order", "little"]}
 FILES = ("objects", "groups", "repeated", "slots", "one_group", "raw")
 # What a time may be at most beside that of `cp`, and how many bytes of memory a block.
 WANTED = {"raw": "at most 3, in memory twice the file and 64 MiB"}
@@ -71,24 +76,25 @@ def make(folder, given, name, count):
     digest(folder / "input")
 
 
-def convert(folder, given, name, out, like=None):
-    return driver.Run([given.program, "convert", name, out, *(["--like", like] if like else [])], folder)
+def convert(folder, given, name, out, options=()):
+    return driver.Run([given.program, "convert", name, out, *options], folder)
 
 
-def output(like):
-    """The name of the output under the catalogue of a file, or in a file's own form."""
-    return f"output-{like}" if like else "output"
+def output(way):
+    """The name of the output under the catalogue of a file, in another form, or in a file's own form."""
+    return f"output-{way}" if way else "output"
 
 
 def measure(folder, given):
-    """The median seconds of `cp`, and the runs of `convert` by the catalogue's file, where none is the own form."""
-    copied, runs = [], {like: [] for like in ((None, SAME, GROWN) if given.like else (None,))}
+    """The median seconds of `cp`, and the runs of `convert` by the way, where none is the own form."""
+    ways = (None, *((SAME, GROWN) if given.like else ()), *((TURNED,) if given.forms else ()))
+    copied, runs = [], {way: [] for way in ways}
     for _ in range(given.rounds):
         for name in ("copy", *map(output, runs)):
             (folder / name).unlink(missing_ok=True)
         copied.append(driver.Run(["cp", "input", "copy"], folder).seconds)
-        for like, found in runs.items():
-            found.append(convert(folder, given, "input", output(like), like))
+        for way, found in runs.items():
+            found.append(convert(folder, given, "input", output(way), OPTIONS[way]))
     return statistics.median(copied), runs
 
 
@@ -108,15 +114,15 @@ def faults(folder, given, name, runs):
         yield "the output doesn't convert to itself"
 
 
-def faults_like(folder, given, like, runs):
-    """What is wrong with the answers under a catalogue, and with the output."""
+def faults_otherwise(folder, given, way, runs):
+    """What is wrong with the answers under a catalogue or in another form, and with the output."""
     status, line = runs[0].answer
     if {run.answer for run in runs} != {(0, line)}:
         yield f"{ {run.answer for run in runs} }"
         return
-    if like == GROWN and convert(folder, given, output(GROWN), "again", SAME).status != 0:
+    if way in BACK and convert(folder, given, output(way), "again", BACK[way]).status != 0:
         yield "the output doesn't convert back"
-    elif digest(folder / ("again" if like == GROWN else output(SAME))) != digest(folder / "output"):
+    elif digest(folder / ("again" if way in BACK else output(way))) != digest(folder / "output"):
         yield "the own form doesn't come of it"
 
 
@@ -137,8 +143,8 @@ def attempt(folder, given, name, count):
     copied, runs = measure(folder, given)
     own = runs.pop(None)
     done = row(folder, name, count, copied, own, own, list(faults(folder, given, name, own)))
-    others = [row(folder, f"  {like}", count, copied, those, own, list(faults_like(folder, given, like, those)))
-              for like, those in runs.items()]
+    others = [row(folder, f"  {way}", count, copied, those, own, list(faults_otherwise(folder, given, way, those)))
+              for way, those in runs.items()]
     return None if None in others else done
 
 
@@ -181,6 +187,7 @@ def main():
     words.add_argument("--rounds", type=int, default=5, help="how often both are run")
     words.add_argument("--sample", type=pathlib.Path, help="a file that Blender saved, uncompressed")
     words.add_argument("--like", action="store_true", help="also under catalogues of other files")
+    words.add_argument("--forms", action="store_true", help="also to the other width and the other order")
     words.add_argument("--folder", help="where the temporary folder is made")
     given = words.parse_args()
     if not 10 <= given.blocks <= 1_000_000 or not 1_000 <= given.slots <= 4_000_000 or given.rounds < 1:

@@ -1,14 +1,31 @@
 """What becomes of an element of a struct under another catalogue, by the table of fates."""
 import collections
 
-from blend.graph import MEMBER, saying
+from blend.graph import MEMBER
 from oracle import fates
 
-# What is done to an element of the source: bytes stand as they are, a whole number has another size, or a pointer
-# names the new block. `says` is what the pointer says of a raw block under the new catalogue.
-Copy = collections.namedtuple("Copy", "source target length")
+# What is done to an element of the source: numbers of so many bytes stay, which may be turned, a whole number has another
+# size, or a pointer names the new block. `says` is what the pointer says of a raw block under the new catalogue.
+Copy = collections.namedtuple("Copy", "source target length unit")
 Cast = collections.namedtuple("Cast", "source size signed target new_size")
 Pointer = collections.namedtuple("Pointer", "source target says")
+
+
+# The bytes of a number that a pointer to a basic type names. A `long` has those that it has in its file.
+NUMBER_BYTES = {
+    **dict.fromkeys((b"char", b"int8_t", b"uchar"), 1), **dict.fromkeys((b"short", b"ushort"), 2),
+    **dict.fromkeys((b"int", b"float"), 4), **dict.fromkeys((b"int64_t", b"uint64_t", b"double"), 8),
+}
+BYTES, POINTERS, PAIR = 1, "pointers", "pair"
+
+
+def said(stars, kind, length):
+    """What a pointer to a type says of a raw block that it names: pointers, numbers of so many bytes, or nothing."""
+    if stars == 2:
+        return POINTERS
+    if stars != 1 or kind not in fates.HOLDS:
+        return BYTES
+    return None if kind == b"void" else NUMBER_BYTES.get(kind, length)
 
 
 class FloatClash(Exception):
@@ -35,7 +52,7 @@ def joined(moves):
     for move in moves:
         last = found[-1] if found else None
         if (isinstance(move, Copy) and isinstance(last, Copy) and last.source + last.length == move.source
-                and last.target + last.length == move.target):
+                and last.target + last.length == move.target and last.unit == move.unit):
             found[-1] = last._replace(length=last.length + move.length)
         else:
             found.append(move)
@@ -43,10 +60,10 @@ def joined(moves):
 
 
 class Carrying:
-    """The moves that carry structs of a catalogue to another, at a width of pointers."""
+    """The moves that carry structs of a catalogue at a width of pointers to another."""
 
-    def __init__(self, source, target, width):
-        self.sources, self.targets = fates.structs(source, width), fates.structs(target, width)
+    def __init__(self, source, width, target, new_width):
+        self.sources, self.targets = fates.structs(source, width), fates.structs(target, new_width)
         self.found = {}
 
     def of(self, name):
@@ -83,12 +100,12 @@ class Carrying:
         places = [(at + k * size, to + k * new_size) for k in range(kept_elements(source, target))]
         if target.pointer:
             found = MEMBER.match(target.name)
-            says = saying(len(found[1]), target.kind) if found else False
+            says = said(len(found[1]), target.kind, target.length) if found else BYTES
             yield from (Pointer(*place, says) for place in places)
         elif target.holds == "struct":
             inner = self.of(target.kind)
             yield from (moved(move, *place) for place in places for move in inner)
         elif size == new_size:
-            yield Copy(at, to, len(places) * size)
+            yield Copy(at, to, len(places) * size, 1 if source.holds == "opaque" else size)
         else:
             yield from (Cast(here, size, source.holds == "signed", there, new_size) for here, there in places)
