@@ -50,11 +50,7 @@ fn catalogue_at(alloc: Global, model: &Outline, width: Width) -> Result<Catalogu
 fn same_width(one: Width, other: Width) -> bool
     ensures { IsTrue result ↔ (one ≡ other) }
 {
-    match (one, other) {
-        (Width::Four, Width::Four) => true,
-        (Width::Eight, Width::Eight) => true,
-        _ => false,
-    }
+    one == other
 }
 
 // How a run ends for a struct that is too long at a width.

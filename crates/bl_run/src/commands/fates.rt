@@ -20,24 +20,33 @@ use bl_shelf::{Shelf, Sink};
 use std::alloc::{AllocError, Global};
 use std::collections::BTreeMap;
 
-// The line of a member of struct `t`, which meets struct `s` with the members `known`.
-fn line_of_fate<'a>(
-    alloc: Global,
+// Struct `t` of a catalogue and struct `s` of another, which have one name.
+#[derive(Clone, Copy)]
+struct Pair<'a> {
     from: &'a Layout,
     s: u32,
-    known: &BTreeMap<&'a [u8], u32>,
     to: &'a Layout,
     t: u32,
+}
+
+// The line of a member of struct `t`, by the members of struct `s`.
+fn line_of_fate<'a>(
+    alloc: Global,
+    pair: &Pair<'a>,
+    known: &BTreeMap<&'a [u8], u32>,
     member: u32,
 ) -> Result<Vec<u8>, AllocError>
-    requires known { HasMembers from.now.catalogue s known.now }
-    requires s { s < length from.now.catalogue.structs }
-    requires t { t < length to.now.catalogue.structs }
-    requires name { struct_name from.now.catalogue s ≡ struct_name to.now.catalogue t }
-    requires member { member < member_count to.now.catalogue t }
+    requires known { HasMembers pair.now.from.now.catalogue pair.now.s known.now }
+    requires s { pair.now.s < length pair.now.from.now.catalogue.structs }
+    requires t { pair.now.t < length pair.now.to.now.catalogue.structs }
+    requires name { struct_name pair.now.from.now.catalogue pair.now.s
+        ≡ struct_name pair.now.to.now.catalogue pair.now.t }
+    requires member { member < member_count pair.now.to.now.catalogue pair.now.t }
     ensures { IfOk result (λ line. line.items
-        ≡ fate_line from.now.catalogue from.now.width s to.now.catalogue to.now.width t member) }
+        ≡ fate_line pair.now.from.now.catalogue pair.now.from.now.width pair.now.s pair.now.to.now.catalogue
+        pair.now.to.now.width pair.now.t member) }
 {
+    let Pair { from, s, to, t } = *pair;
     let name = member_name(to.catalogue(), t, member);
     fate_line(alloc, name, member_fate(from, s, known, to, t, member))
 }
@@ -45,48 +54,46 @@ fn line_of_fate<'a>(
 // Adds the line of a member of struct `t`, which meets struct `s`.
 fn add_fate<'a, O: Sink>(
     alloc: Global,
-    from: &'a Layout,
-    s: u32,
+    pair: &Pair<'a>,
     known: &BTreeMap<&'a [u8], u32>,
-    to: &'a Layout,
-    t: u32,
     member: u32,
     pending: &mut Vec<u8>,
     out: &mut O,
 ) -> Result<(), Ending>
-    requires known { HasMembers from.now.catalogue s known.now }
-    requires s { s < length from.now.catalogue.structs }
-    requires t { t < length to.now.catalogue.structs }
-    requires name { struct_name from.now.catalogue s ≡ struct_name to.now.catalogue t }
-    requires member { member < member_count to.now.catalogue t }
+    requires known { HasMembers pair.now.from.now.catalogue pair.now.s known.now }
+    requires s { pair.now.s < length pair.now.from.now.catalogue.structs }
+    requires t { pair.now.t < length pair.now.to.now.catalogue.structs }
+    requires name { struct_name pair.now.from.now.catalogue pair.now.s
+        ≡ struct_name pair.now.to.now.catalogue pair.now.t }
+    requires member { member < member_count pair.now.to.now.catalogue pair.now.t }
     ensures puts { PutsLater O.Sink out.old out.new pending.old.items pending.new.items
-        (fate_line from.now.catalogue from.now.width s to.now.catalogue to.now.width t member) result }
+        (fate_line pair.now.from.now.catalogue pair.now.from.now.width pair.now.s pair.now.to.now.catalogue
+        pair.now.to.now.width pair.now.t member) result }
 {
-    let line = line_of_fate(alloc, from, s, known, to, t, member)?;
+    let line = line_of_fate(alloc, pair, known, member)?;
     add_line(&line, pending, out)
 }
 
 // Adds the lines of the members of struct `t`, which meets struct `s`.
 fn add_fates<'a, O: Sink>(
     alloc: Global,
-    from: &'a Layout,
-    s: u32,
+    pair: &Pair<'a>,
     known: &BTreeMap<&'a [u8], u32>,
-    to: &'a Layout,
-    t: u32,
     pending: &mut Vec<u8>,
     out: &mut O,
 ) -> Result<(), Ending>
-    requires known { HasMembers from.now.catalogue s known.now }
-    requires s { s < length from.now.catalogue.structs }
-    requires t { t < length to.now.catalogue.structs }
-    requires name { struct_name from.now.catalogue s ≡ struct_name to.now.catalogue t }
+    requires known { HasMembers pair.now.from.now.catalogue pair.now.s known.now }
+    requires s { pair.now.s < length pair.now.from.now.catalogue.structs }
+    requires t { pair.now.t < length pair.now.to.now.catalogue.structs }
+    requires name { struct_name pair.now.from.now.catalogue pair.now.s
+        ≡ struct_name pair.now.to.now.catalogue pair.now.t }
     ensures puts { PutsLater O.Sink out.old out.new pending.old.items pending.new.items
-        (flat_map (fate_line from.now.catalogue from.now.width s to.now.catalogue to.now.width t)
-        (member_numbers to.now.catalogue t)) result }
+        (flat_map (fate_line pair.now.from.now.catalogue pair.now.from.now.width pair.now.s
+        pair.now.to.now.catalogue pair.now.to.now.width pair.now.t)
+        (member_numbers pair.now.to.now.catalogue pair.now.t)) result }
 {
-    for member in 0..to.member_count(t) {
-        add_fate(alloc, from, s, known, to, t, member, pending, out)?;
+    for member in 0..pair.to.member_count(pair.t) {
+        add_fate(alloc, pair, known, member, pending, out)?;
     }
     Ok(())
 }
@@ -94,24 +101,23 @@ fn add_fates<'a, O: Sink>(
 // Adds the line of struct `t`, which meets struct `s`, and those of its members.
 fn add_common_struct<'a, O: Sink>(
     alloc: Global,
-    from: &'a Layout,
-    s: u32,
-    to: &'a Layout,
-    t: u32,
+    pair: &Pair<'a>,
     pending: &mut Vec<u8>,
     out: &mut O,
 ) -> Result<(), Ending>
-    requires s { s < length from.now.catalogue.structs }
-    requires t { t < length to.now.catalogue.structs }
-    requires name { struct_name from.now.catalogue s ≡ struct_name to.now.catalogue t }
+    requires s { pair.now.s < length pair.now.from.now.catalogue.structs }
+    requires t { pair.now.t < length pair.now.to.now.catalogue.structs }
+    requires name { struct_name pair.now.from.now.catalogue pair.now.s
+        ≡ struct_name pair.now.to.now.catalogue pair.now.t }
     ensures puts { PutsLater O.Sink out.old out.new pending.old.items pending.new.items
-        (common_struct_lines from.now.catalogue from.now.width s to.now.catalogue to.now.width t)
+        (common_struct_lines pair.now.from.now.catalogue pair.now.from.now.width pair.now.s
+        pair.now.to.now.catalogue pair.now.to.now.width pair.now.t)
         result }
 {
-    let known = known_members(alloc, from, s)?;
-    let line = common_struct_line(alloc, struct_name(to.catalogue(), t))?;
+    let known = known_members(alloc, pair.from, pair.s)?;
+    let line = common_struct_line(alloc, struct_name(pair.to.catalogue(), pair.t))?;
     add_line(&line, pending, out)?;
-    add_fates(alloc, from, s, &known, to, t, pending, out)
+    add_fates(alloc, pair, &known, pending, out)
 }
 
 // Adds the line of a struct of this name that nothing meets.
@@ -146,7 +152,7 @@ fn add_struct<'a, O: Sink>(
     let name = struct_name(to.catalogue(), t);
     match known.get(&name).copied() {
         None => add_new_struct(alloc, name, pending, out),
-        Some(s) => add_common_struct(alloc, from, s, to, t, pending, out),
+        Some(s) => add_common_struct(alloc, &Pair { from, s, to, t }, pending, out),
     }
 }
 

@@ -7,6 +7,6 @@ use Rattle.bl_run.proofs.commands.fates.add_fates.Given as goal
 
 abbrev pub invariant-loop-member : goal.invariant-loop-member
 invariant-loop-member g l = record {
-  so_far : Adds (g.O.Sink.written l.initial.out) l.initial.pending.items (flat_map (fate_line l.from.catalogue l.from.width l.s l.to.catalogue l.to.width l.t) (numbers_below l.member)) (g.O.Sink.written l.out) l.pending.items;
+  so_far : Adds (g.O.Sink.written l.initial.out) l.initial.pending.items (flat_map (fate_line l.pair.from.now.catalogue l.pair.from.now.width l.pair.s l.pair.to.now.catalogue l.pair.to.now.width l.pair.t) (numbers_below l.member)) (g.O.Sink.written l.out) l.pending.items;
   quiet : g.O.Sink.faults l.out ≡ g.O.Sink.faults l.initial.out;
 }
